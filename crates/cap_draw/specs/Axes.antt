@@ -10,7 +10,7 @@ use Rattle.cap_draw.specs.declared.plot.Plot.{Plot}
 abbrev pub row_line : Plot → ℕ → List ℕ
 row_line plot i =
     codes "<path class='g' d='M60 " ++ decimal (540 - 70 * i) ++ codes "h" ++ decimal (plot.width + 4) ++ codes "'/><text x='54' y='" ++ decimal (545 - 70 * i)
-    ++ codes "' text-anchor='end'>" ++ decimal (70 * plot.rows * i) ++ codes "</text>\n"
+    ++ codes "' text-anchor='end'>" ++ decimal (70 * plot.scale * i) ++ codes "</text>\n"
 
 abbrev pub row_lines : Plot → ℕ → List ℕ
 row_lines plot = texts (row_line plot)
@@ -18,18 +18,18 @@ row_lines plot = texts (row_line plot)
 -- What opens the plot of sums: 440 units high. Within it heights are PI error rows, counted from its lower edge up.
 abbrev pub plot_frame : Plot → List ℕ
 plot_frame plot =
-    codes "<svg x='64' y='100' width='" ++ decimal plot.width ++ codes "' height='440' viewBox='0 0 " ++ decimal plot.width ++ codes " " ++ decimal (440 * plot.rows)
-    ++ codes "' preserveAspectRatio='none'><g class='u' transform='matrix(1 0 0 -1 0 " ++ decimal (440 * plot.rows) ++ codes ")'>\n"
+    codes "<svg x='64' y='100' width='" ++ decimal plot.width ++ codes "' height='440' viewBox='0 0 " ++ decimal plot.width ++ codes " " ++ decimal (440 * plot.scale)
+    ++ codes "' preserveAspectRatio='none'><g class='u' transform='matrix(1 0 0 -1 0 " ++ decimal (440 * plot.scale) ++ codes ")'>\n"
 
 -- the line at 280 rows, which closes the plot, and the two axes
 abbrev pub limit_line : Plot → List ℕ
 limit_line plot =
-    codes "<path class='d' stroke-width='" ++ decimal (2 * plot.rows) ++ codes "' d='M0 280h" ++ decimal plot.width
+    codes "<path class='d' stroke-width='" ++ decimal (2 * plot.scale) ++ codes "' d='M0 280h" ++ decimal plot.width
     ++ codes "'/></g></svg>\n<path class='k' d='M64 540h" ++ decimal plot.width ++ codes "M64 100v440'/>\n"
 
 -- where a block begins in the picture
-abbrev pub place_of : ℕ → ℕ → ℕ → ℕ
-place_of block blocks width = 64 + share block width blocks
+abbrev pub block_x : ℕ → ℕ → ℕ → ℕ
+block_x block blocks width = 64 + share block width blocks
 
 abbrev pub is_on_layer_1 : Cell → Bool
 is_on_layer_1 cell = cell.layer == 1
@@ -42,7 +42,7 @@ layer_at x =
 abbrev pub layer_mark : List Cell → ℕ → List ℕ
 layer_mark cells width =
     let first = before_first is_on_layer_1 cells in
-    if nat_lt first (length cells) then layer_at (place_of first (length cells) width) else []
+    if nat_lt first (length cells) then layer_at (block_x first (length cells) width) else []
 
 -- the tick at a block, with its number
 abbrev pub tick_at : ℕ → ℕ → List ℕ
@@ -51,7 +51,7 @@ tick_at x block =
     ++ codes "</text>\n"
 
 abbrev pub block_tick : ℕ → ℕ → ℕ → List ℕ
-block_tick blocks width block = tick_at (place_of block blocks width) block
+block_tick blocks width block = tick_at (block_x block blocks width) block
 
 -- the ticks at the ends of five parts, or of each block where there are fewer
 abbrev pub block_ticks : ℕ → ℕ → List ℕ
@@ -75,5 +75,5 @@ marks_frame plot =
     ++ codes "<text x='54' y='648' text-anchor='end'>0</text>\n<g class='o' transform='translate(64 656)'>\n"
 
 -- what closes the band of refused blocks
-abbrev pub marks_line : Plot → List ℕ
-marks_line plot = codes "</g>\n<path class='k' d='M64 672h" ++ decimal plot.width ++ codes "'/>\n"
+abbrev pub band_line : Plot → List ℕ
+band_line plot = codes "</g>\n<path class='k' d='M64 672h" ++ decimal plot.width ++ codes "'/>\n"

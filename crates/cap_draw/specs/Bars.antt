@@ -18,29 +18,29 @@ title column = codes "'><title>" ++ decimal column.blocks ++ codes " blocks from
 abbrev pub over_class : ℕ → List ℕ
 over_class sum8 = if nat_lt 280 sum8 then codes " class='o'" else []
 
-abbrev pub mark_at : ℕ → Column → List ℕ
-mark_at rows column =
-    codes "<path class='o' d='M" ++ decimal column.x ++ codes " " ++ decimal (440 * rows) ++ codes "h" ++ decimal column.width ++ codes "v-" ++ decimal (14 * rows)
+abbrev pub mark_path : ℕ → Column → List ℕ
+mark_path scale column =
+    codes "<path class='o' d='M" ++ decimal column.x ++ codes " " ++ decimal (440 * scale) ++ codes "h" ++ decimal column.width ++ codes "v-" ++ decimal (14 * scale)
     ++ codes "h-" ++ decimal column.width ++ codes "z'/>\n"
 
 abbrev pub over_mark : ℕ → Column → List ℕ
-over_mark rows column = if nat_lt 280 column.sum8 then mark_at rows column else []
+over_mark scale column = if nat_lt 280 column.sum8 then mark_path scale column else []
 
 -- The bar of a column: it is as high as the greatest sum of eight of its blocks.
 abbrev pub bar : ℕ → Column → List ℕ
-bar rows column =
+bar scale column =
     codes "<rect" ++ over_class column.sum8 ++ codes " x='" ++ decimal column.x ++ codes "' width='" ++ decimal column.width ++ codes "' height='" ++ decimal column.sum8
-    ++ title column ++ codes "sum8 " ++ decimal column.sum8 ++ codes "</title></rect>\n" ++ over_mark rows column
+    ++ title column ++ codes "sum8 " ++ decimal column.sum8 ++ codes "</title></rect>\n" ++ over_mark scale column
 
 -- The bar of a column in which a block has failed rows, as high as the most in one block, and a mark below it.
-abbrev pub failed_rows : Column → List ℕ
-failed_rows column =
+abbrev pub failed_rows_bar : Column → List ℕ
+failed_rows_bar column =
     codes "<rect x='" ++ decimal column.x ++ codes "' width='" ++ decimal column.width ++ codes "' height='" ++ decimal column.failed
     ++ title column ++ codes "failed " ++ decimal column.failed ++ codes "</title></rect><path class='o' d='M" ++ decimal column.x
     ++ codes " 0h" ++ decimal column.width ++ codes "v-16h-" ++ decimal column.width ++ codes "z'/>\n"
 
 abbrev pub failed_bar : Column → List ℕ
-failed_bar column = if nat_lt 0 column.failed then failed_rows column else []
+failed_bar column = if nat_lt 0 column.failed then failed_rows_bar column else []
 
 -- the middle of a column
 abbrev pub middle_of : Column → ℕ
@@ -57,7 +57,7 @@ refused_mark column = if nat_lt 0 column.refused then triangle column else []
 
 -- the bars of the first columns
 abbrev pub bars : List Cell → Plot → ℕ → List ℕ
-bars cells plot = texts (λ c. bar plot.rows (column_of cells plot c))
+bars cells plot = texts (λ c. bar plot.scale (column_of cells plot c))
 
 abbrev pub failed_bars : List Cell → Plot → ℕ → List ℕ
 failed_bars cells plot = texts (λ c. failed_bar (column_of cells plot c))

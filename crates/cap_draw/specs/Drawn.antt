@@ -20,16 +20,16 @@ pub record HasRead (old new : Seen) (ended : Ended) : Type 0 where
   pub says : survey_of text ≡ Ok ended
 
 -- what was read of the survey breaks a rule
-pub record Breaks (old new : Seen) (fault : Fault) : Type 0 where
+pub record BreaksSurvey (old new : Seen) (fault : Fault) : Type 0 where
   pub text : List ℕ
   pub reads : Consumes old.bytes new.bytes text
   pub says : survey_of text ≡ Err fault
 
 -- why a survey isn't read to its end
-abbrev pub IsStop : Seen → Seen → DrawEnd → Type 0
-IsStop old new ReadFault = HasFailed old new
-IsStop old new (Rule fault) = Breaks old new fault
-IsStop old new other = ⊥
+abbrev pub IsSurveyStop : Seen → Seen → DrawEnd → Type 0
+IsSurveyStop old new ReadFault = HasFailed old new
+IsSurveyStop old new (Rule fault) = BreaksSurvey old new fault
+IsSurveyStop old new other = ⊥
 
 -- the picture is written as a whole
 pub record HasAll (most : ℕ) (ended : Ended) (old new : Seen) : Type 0 where
@@ -55,5 +55,5 @@ pub record HasBoth (most : ℕ) (source new_source out new_out : Seen) (end : Dr
 abbrev pub HasDrawn : ℕ → Seen → Seen → Seen → Seen → Type 0 → Type 0 → DrawEnd → Type 0
 HasDrawn most source new_source out new_out SourceSame OutSame NoMemory = SourceSame × OutSame
 HasDrawn most source new_source out new_out SourceSame OutSame ReadFault = HasFailed source new_source × OutSame
-HasDrawn most source new_source out new_out SourceSame OutSame (Rule fault) = Breaks source new_source fault × OutSame
+HasDrawn most source new_source out new_out SourceSame OutSame (Rule fault) = BreaksSurvey source new_source fault × OutSame
 HasDrawn most source new_source out new_out SourceSame OutSame end = HasBoth most source new_source out new_out end

@@ -1,7 +1,7 @@
 -- The picture of a survey, as an SVG file.
 use Rattle.std.specs.Prelude.{ℕ, Bool, List, ◌++◌}
 use Rattle.cap_survey.specs.declared.cell.Cell.{Cell}
-use Rattle.cap_draw.specs.Axes.{block_axis, limit_line, lower_frame, marks_frame, marks_line, plot_frame, row_lines}
+use Rattle.cap_draw.specs.Axes.{block_axis, limit_line, lower_frame, marks_frame, band_line, plot_frame, row_lines}
 use Rattle.cap_draw.specs.Bars.{bars, failed_bars, refused_marks}
 use Rattle.cap_draw.specs.Plot.{plot_of}
 use Rattle.cap_draw.specs.Words.{head, legend, totals_text}
@@ -16,7 +16,7 @@ upper_part cells closed plot =
 -- the bands of failed rows and of refused blocks, and the legend
 unfoldable pub lower_part : List Cell → Plot → List ℕ
 lower_part cells plot =
-    lower_frame plot ++ failed_bars cells plot plot.columns ++ marks_frame plot ++ refused_marks cells plot plot.columns ++ marks_line plot ++ legend
+    lower_frame plot ++ failed_bars cells plot plot.columns ++ marks_frame plot ++ refused_marks cells plot plot.columns ++ band_line plot ++ legend
 
 -- The picture of some blocks in at most `most` columns. Where the line of totals is missing, the survey is cut.
 unfoldable pub picture : List Cell → Bool → ℕ → List ℕ

@@ -9,12 +9,12 @@ abbrev pub plot_width : ℕ → ℕ
 plot_width most = most * ((999 + most) / most)
 
 -- PI error rows that are as high as one unit: the plot is 420 units high
-abbrev pub rows_by : ℕ → ℕ
-rows_by peak = if nat_le peak 420 then 1 else (if nat_le peak 840 then 2 else 4)
+abbrev pub scale_for : ℕ → ℕ
+scale_for peak = if nat_le peak 420 then 1 else (if nat_le peak 840 then 2 else 4)
 
 -- the plot of some blocks with at most `most` columns
 abbrev pub plot_of : List Cell → ℕ → Plot
-plot_of cells most = record { width = plot_width most; rows = rows_by (greatest_of sum8_of cells); columns = min (length cells) most }
+plot_of cells most = record { width = plot_width most; scale = scale_for (greatest_of sum8_of cells); columns = min (length cells) most }
 
 -- where part k begins, if a whole is shared among `parts` parts
 abbrev pub share : ℕ → ℕ → ℕ → ℕ

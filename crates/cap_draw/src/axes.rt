@@ -1,7 +1,7 @@
 //! The axes of a picture, and what frames its parts. All is in units of the picture. The plot of sums begins at 64 from
 //! the left and 100 from the top, and ends at 540.
 ghost use Rattle.std.specs.Prelude.{◌≡◌, ◌≤◌, ◌<◌, ◌+◌, ◌*◌, ◌++◌, length};
-ghost use Rattle.cap_draw.specs.Axes.{block_axis, block_tick, block_ticks, is_on_layer_1, layer_at, layer_mark, limit_line, lower_frame, marks_frame, marks_line, plot_frame, place_of, row_line, row_lines, tick_at};
+ghost use Rattle.cap_draw.specs.Axes.{block_axis, block_tick, block_ticks, is_on_layer_1, layer_at, layer_mark, limit_line, lower_frame, marks_frame, band_line, plot_frame, block_x, row_line, row_lines, tick_at};
 ghost use Rattle.cap_survey.specs.Totals.{before_first};
 
 use crate::page::Page;
@@ -12,7 +12,7 @@ use cap_survey::Cell;
 pub fn put_row_lines(page: &mut Page, plot: &Plot)
     requires room { length page.old ≤ 2000 }
     requires width { plot.now.width ≤ 4999 }
-    requires rows { plot.now.rows ≤ 4 }
+    requires scale { plot.now.scale ≤ 4 }
     ensures bytes { page.new ≡ page.old ++ row_lines plot.now 7 }
     ensures len { length page.new ≤ length page.old + 840 }
 {
@@ -25,7 +25,7 @@ pub fn put_row_lines(page: &mut Page, plot: &Plot)
 fn put_row_line(page: &mut Page, plot: &Plot, i: u16)
     requires room { length page.old ≤ 5000 }
     requires width { plot.now.width ≤ 4999 }
-    requires rows { plot.now.rows ≤ 4 }
+    requires scale { plot.now.scale ≤ 4 }
     requires line { i < 7 }
     ensures bytes { page.new ≡ page.old ++ row_line plot.now i }
     ensures len { length page.new ≤ length page.old + 120 }
@@ -33,7 +33,7 @@ fn put_row_line(page: &mut Page, plot: &Plot, i: u16)
     page.put_short(b"<path class='g' d='M60 ", 540 - 70 * i);
     page.put_short(b"h", plot.width + 4);
     page.put_short(b"'/><text x='54' y='", 545 - 70 * i);
-    page.put_short(b"' text-anchor='end'>", 70 * plot.rows * i);
+    page.put_short(b"' text-anchor='end'>", 70 * plot.scale * i);
     page.put(b"</text>\n");
 }
 
@@ -41,29 +41,29 @@ fn put_row_line(page: &mut Page, plot: &Plot, i: u16)
 /// number, whatever the scale is.
 pub fn put_plot_frame(page: &mut Page, plot: &Plot)
     requires room { length page.old ≤ 5000 }
-    requires rows { plot.now.rows ≤ 4 }
+    requires scale { plot.now.scale ≤ 4 }
     ensures bytes { page.new ≡ page.old ++ plot_frame plot.now }
     ensures len { length page.new ≤ length page.old + 220 }
 {
     page.put_short(b"<svg x='64' y='100' width='", plot.width);
     page.put_short(b"' height='440' viewBox='0 0 ", plot.width);
-    page.put_short(b" ", 440 * plot.rows);
+    page.put_short(b" ", 440 * plot.scale);
     page.put_short(
         b"' preserveAspectRatio='none'><g class='u' transform='matrix(1 0 0 -1 0 ",
-        440 * plot.rows,
+        440 * plot.scale,
     );
     page.put(b")'>\n");
 }
 
-/// Puts the line at 280, and closes the plot of sums. Within the plot heights are rows, so a stroke of 2 × `rows` is 2
+/// Puts the line at 280, and closes the plot of sums. Within the plot heights are rows, so a stroke of 2 × `scale` is 2
 /// units of the picture.
 pub fn put_limit(page: &mut Page, plot: &Plot)
     requires room { length page.old ≤ 802500 }
-    requires rows { plot.now.rows ≤ 4 }
+    requires scale { plot.now.scale ≤ 4 }
     ensures bytes { page.new ≡ page.old ++ limit_line plot.now }
     ensures len { length page.new ≤ length page.old + 130 }
 {
-    page.put_short(b"<path class='d' stroke-width='", 2 * plot.rows);
+    page.put_short(b"<path class='d' stroke-width='", 2 * plot.scale);
     page.put_short(b"' d='M0 280h", plot.width);
     page.put_short(b"'/></g></svg>\n<path class='k' d='M64 540h", plot.width);
     page.put(b"M64 100v440'/>\n");
@@ -86,12 +86,12 @@ pub fn put_block_axis(page: &mut Page, cells: &[Cell], plot: &Plot)
 }
 
 // Where a block begins in the picture.
-fn place_of(block: u32, blocks: u32, width: u16) -> u16
+fn block_x(block: u32, blocks: u32, width: u16) -> u16
     requires some { 0 < blocks }
     requires within { block ≤ blocks }
     requires few { blocks ≤ 2097152 }
     requires width { width ≤ 4999 }
-    ensures place { result ≡ place_of block blocks width }
+    ensures place { result ≡ block_x block blocks width }
     ensures bound { result ≤ 5063 }
 {
     64 + share(block, u32::from(width), blocks) as u16
@@ -108,7 +108,7 @@ fn put_layer(page: &mut Page, cells: &[Cell], width: u16)
     let first = first_on_layer_1(cells);
     let blocks = cells.len() as u32;
     if first < blocks {
-        put_layer_at(page, place_of(first, blocks, width));
+        put_layer_at(page, block_x(first, blocks, width));
     }
 }
 
@@ -163,7 +163,7 @@ fn put_block_tick(page: &mut Page, block: u32, blocks: u32, width: u16)
     ensures bytes { page.new ≡ page.old ++ block_tick blocks width block }
     ensures len { length page.new ≤ length page.old + 100 }
 {
-    put_tick_at(page, place_of(block, blocks, width), block);
+    put_tick_at(page, block_x(block, blocks, width), block);
 }
 
 fn put_tick_at(page: &mut Page, x: u16, block: u32)
@@ -206,7 +206,7 @@ pub fn put_marks_frame(page: &mut Page, plot: &Plot)
 /// Closes the band of refused blocks.
 pub fn put_marks_line(page: &mut Page, plot: &Plot)
     requires room { length page.old ≤ 1930000 }
-    ensures bytes { page.new ≡ page.old ++ marks_line plot.now }
+    ensures bytes { page.new ≡ page.old ++ band_line plot.now }
     ensures len { length page.new ≤ length page.old + 60 }
 {
     page.put_short(b"</g>\n<path class='k' d='M64 672h", plot.width);

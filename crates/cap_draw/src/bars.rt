@@ -1,7 +1,7 @@
 //! The columns of a picture, as rectangles and marks. The clauses say how many bytes each has at most, of which the
 //! bound of the whole picture is made.
 ghost use Rattle.std.specs.Prelude.{◌≡◌, ◌≤◌, ◌+◌, ◌*◌, ◌++◌, length};
-ghost use Rattle.cap_draw.specs.Bars.{bar, bars, failed_bar, failed_bars, failed_rows, mark_at, middle_of, over_class, over_mark, refused_mark, refused_marks, title, triangle};
+ghost use Rattle.cap_draw.specs.Bars.{bar, bars, failed_bar, failed_bars, failed_rows_bar, mark_path, middle_of, over_class, over_mark, refused_mark, refused_marks, title, triangle};
 ghost use Rattle.cap_draw.specs.Columns.{column_of};
 
 use crate::column::{Column, column_of};
@@ -14,22 +14,22 @@ pub fn put_bars(page: &mut Page, cells: &[Cell], plot: &Plot)
     requires room { length page.old ≤ 10000 }
     requires few { length cells.now ≤ 2097152 }
     requires width { plot.now.width ≤ 4999 }
-    requires rows { plot.now.rows ≤ 4 }
+    requires scale { plot.now.scale ≤ 4 }
     requires columns { plot.now.columns ≤ 4000 }
     requires fewer { plot.now.columns ≤ length cells.now }
     ensures bytes { page.new ≡ page.old ++ bars cells.now plot.now plot.now.columns }
     ensures len { length page.new ≤ length page.old + 200 * plot.now.columns }
 {
     for c in 0..plot.columns {
-        put_bar(page, &column_of(cells, plot, c), plot.rows);
+        put_bar(page, &column_of(cells, plot, c), plot.scale);
     }
 }
 
 // Puts a bar. It has no `y`: the plot counts upwards, so that a bar begins at the lower edge.
-fn put_bar(page: &mut Page, column: &Column, rows: u16)
+fn put_bar(page: &mut Page, column: &Column, scale: u16)
     requires room { length page.old + 200 ≤ 2000000 }
-    requires rows { rows ≤ 4 }
-    ensures bytes { page.new ≡ page.old ++ bar rows column.now }
+    requires scale { scale ≤ 4 }
+    ensures bytes { page.new ≡ page.old ++ bar scale column.now }
     ensures len { length page.new ≤ length page.old + 200 }
 {
     page.put(b"<rect");
@@ -40,7 +40,7 @@ fn put_bar(page: &mut Page, column: &Column, rows: u16)
     put_title(page, column);
     page.put_short(b"sum8 ", column.sum8);
     page.put(b"</title></rect>\n");
-    put_mark(page, column, rows);
+    put_mark(page, column, scale);
 }
 
 // The class of a bar above the limit.
@@ -66,28 +66,28 @@ fn put_title(page: &mut Page, column: &Column)
 }
 
 // The mark of a column above the limit, at the upper edge of the plot. So the picture can be read without colour.
-fn put_mark(page: &mut Page, column: &Column, rows: u16)
+fn put_mark(page: &mut Page, column: &Column, scale: u16)
     requires room { length page.old + 60 ≤ 2000000 }
-    requires rows { rows ≤ 4 }
-    ensures bytes { page.new ≡ page.old ++ over_mark rows column.now }
+    requires scale { scale ≤ 4 }
+    ensures bytes { page.new ≡ page.old ++ over_mark scale column.now }
     ensures len { length page.new ≤ length page.old + 60 }
 {
     if column.sum8 > 280 {
-        put_mark_at(page, column, rows);
+        put_mark_at(page, column, scale);
     }
 }
 
-// Heights in the plot are rows: it is 440 × `rows` high, and the mark 14 × `rows`.
-fn put_mark_at(page: &mut Page, column: &Column, rows: u16)
+// Heights in the plot are rows: it is 440 × `scale` high, and the mark 14 × `scale`.
+fn put_mark_at(page: &mut Page, column: &Column, scale: u16)
     requires room { length page.old + 60 ≤ 2000000 }
-    requires rows { rows ≤ 4 }
-    ensures bytes { page.new ≡ page.old ++ mark_at rows column.now }
+    requires scale { scale ≤ 4 }
+    ensures bytes { page.new ≡ page.old ++ mark_path scale column.now }
     ensures len { length page.new ≤ length page.old + 60 }
 {
     page.put_short(b"<path class='o' d='M", column.x);
-    page.put_short(b" ", 440 * rows);
+    page.put_short(b" ", 440 * scale);
     page.put_short(b"h", column.width);
-    page.put_short(b"v-", 14 * rows);
+    page.put_short(b"v-", 14 * scale);
     page.put_short(b"h-", column.width);
     page.put(b"z'/>\n");
 }
@@ -120,7 +120,7 @@ fn put_failed_bar(page: &mut Page, column: &Column)
 // The mark is below the bar, since the bar of one row is hardly seen.
 fn put_failed_rows(page: &mut Page, column: &Column)
     requires room { length page.old + 170 ≤ 2000000 }
-    ensures bytes { page.new ≡ page.old ++ failed_rows column.now }
+    ensures bytes { page.new ≡ page.old ++ failed_rows_bar column.now }
     ensures len { length page.new ≤ length page.old + 170 }
 {
     page.put_short(b"<rect x='", column.x);

@@ -1,8 +1,8 @@
 //! Reads a survey, and writes its picture. Nothing is written before the last line was read, so that a survey that
 //! breaks a rule leaves no picture.
 ghost use Rattle.std.specs.Prelude.{◌≡◌, ◌<◌, ◌≤◌, [], IfOk, IfErr};
-ghost use Rattle.cap_draw.specs.Drawn.{HasDrawn, HasRead, HasWritten, IsStop};
-ghost use Rattle.cap_survey.specs.Survey.{nothing};
+ghost use Rattle.cap_draw.specs.Drawn.{HasDrawn, HasRead, HasWritten, IsSurveyStop};
+ghost use Rattle.cap_survey.specs.Survey.{nothing_read};
 
 use crate::page::Page;
 use crate::picture::put_picture;
@@ -46,9 +46,9 @@ pub fn draw<S: Source, K: Sink>(alloc: Global, most: u16, src: &mut S, out: &mut
 
 // Reads a survey to its end: how many bytes of a last line that is cut there are.
 fn read_survey<S: Source>(reading: &mut Reading, src: &mut S) -> Result<usize, DrawEnd>
-    requires { reading.old ≡ record { read = nothing; line = [] } }
+    requires { reading.old ≡ record { read = nothing_read; line = [] } }
     ensures read { IfOk result (λ left. HasRead (S.seen src.old) (S.seen src.new) (record { read = reading.new.read; left = left })) }
-    ensures stop { IfErr result (IsStop (S.seen src.old) (S.seen src.new)) }
+    ensures stop { IfErr result (IsSurveyStop (S.seen src.old) (S.seen src.new)) }
 {
     // A piece may end within a line: `Reading` puts lines together.
     let mut piece = [0; 32768];

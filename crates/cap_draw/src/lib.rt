@@ -13,7 +13,7 @@ mod picture; // a whole picture
 mod plot; // how wide and how high the parts are
 mod words; // the totals in words, and the legend
 
-pub use cap_survey::{Cause, Fault};
+pub use cap_survey::{Fault, SurveyCause};
 pub use drawing::{DrawEnd, draw};
 
 #[cfg(test)]

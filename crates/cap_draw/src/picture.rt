@@ -34,7 +34,7 @@ fn put_upper_part(page: &mut Page, cells: &[Cell], closed: bool, plot: &Plot)
     requires empty { page.old ≡ [] }
     requires few { length cells.now ≤ 2097152 }
     requires width { plot.now.width ≤ 4999 }
-    requires rows { plot.now.rows ≤ 4 }
+    requires scale { plot.now.scale ≤ 4 }
     requires columns { plot.now.columns ≤ 4000 }
     requires fewer { plot.now.columns ≤ length cells.now }
     ensures bytes { page.new ≡ upper_part cells.now closed plot.now }

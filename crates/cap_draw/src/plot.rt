@@ -1,7 +1,7 @@
 //! How wide and how high the parts of a picture are. All numbers are whole, so that each byte of the picture is
 //! determined.
 ghost use Rattle.std.specs.Prelude.{◌≡◌, ◌<◌, ◌≤◌, ◌+◌, min, length};
-ghost use Rattle.cap_draw.specs.Plot.{plot_of, plot_width, rows_by, share};
+ghost use Rattle.cap_draw.specs.Plot.{plot_of, plot_width, scale_for, share};
 ghost use Rattle.cap_survey.specs.Totals.{greatest_of, sum8_of};
 
 use cap_survey::{Cell, greatest_sum8};
@@ -11,7 +11,7 @@ use cap_survey::{Cell, greatest_sum8};
 #[derive(Clone, Copy, Debug, PartialEq, Eq, Drop)]
 pub struct Plot {
     pub width: u16,
-    pub rows: u16,
+    pub scale: u16,
     pub columns: u16,
 }
 
@@ -21,13 +21,13 @@ pub fn plot_of(cells: &[Cell], most: u16) -> Plot
     requires most { most ≤ 4000 }
     ensures plot { result ≡ plot_of cells.now most }
     ensures width { result.width ≤ 4999 }
-    ensures rows { result.rows ≤ 4 }
+    ensures scale { result.scale ≤ 4 }
     ensures columns { result.columns ≤ 4000 }
     ensures fewer { result.columns ≤ length cells.now }
 {
     Plot {
         width: plot_width(most),
-        rows: rows_by(greatest_sum8(cells)),
+        scale: scale_for(greatest_sum8(cells)),
         columns: cells.len().min(usize::from(most)) as u16,
     }
 }
@@ -43,8 +43,8 @@ fn plot_width(most: u16) -> u16
 }
 
 // How many PI error rows are a unit: as few as show the peak in 420 units. The greatest peak, 1,664, needs four.
-fn rows_by(peak: u16) -> u16
-    ensures rows { result ≡ rows_by peak }
+fn scale_for(peak: u16) -> u16
+    ensures scale { result ≡ scale_for peak }
     ensures bound { result ≤ 4 }
 {
     if peak <= 420 {

@@ -1,5 +1,5 @@
 //! Drawings over memory: what is written, and how a fault of each stream ends.
-use crate::{Cause, DrawEnd, Fault, draw};
+use crate::{DrawEnd, Fault, SurveyCause, draw};
 use dvd_ports::{MemSink, MemSource, Source};
 use std::alloc::Global;
 use std::test::Fail;
@@ -87,7 +87,7 @@ fn nothing_is_written_of_what_breaks_a_rule(rt: HostRuntime) -> Result<(), Fail>
     let mut out = MemSink::new(alloc, 9999, 777, Vec::new(alloc))?;
     let fault = Fault {
         line: 1,
-        cause: Cause::Form,
+        cause: SurveyCause::Form,
     };
     assert!(rt; draw(alloc, 100, &mut src, &mut out) == DrawEnd::Rule(fault));
     assert!(rt; out.held().is_empty() && src.read(&mut [0; 9]) == Ok(0));

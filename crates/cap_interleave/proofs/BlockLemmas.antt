@@ -1,6 +1,6 @@
 -- Blocks that are marked whole, row by row.
 use Rattle.std.proofs.Common.{◌≡◌, ◌∙◌, ◌+◌, ◌*◌, ◌≤◌, ℕ, zero, suc, Bool, true, false, List, [], ◌++◌, length, refl, add-one, arith, length-append, length-drop, drop}
-use Rattle.cap_interleave.specs.Blocks.{filled, lost_block, lost_row, lost_rows}
+use Rattle.cap_interleave.specs.Blocks.{block_written, lost_block, lost_row, lost_rows}
 
 pub rows_none : lost_rows 0 ≡ []
 unfolding lost_rows
@@ -19,6 +19,6 @@ pub block_length : length lost_block ≡ 42640
 block_length = rows_length 208
 
 -- a block has as many bytes as there are at most, filled or not
-pub filled_room : (fill : Bool) (own : List ℕ) → length own ≤ 42640 → length (filled fill own) ≤ 42640
+pub filled_room : (fill : Bool) (own : List ℕ) → length own ≤ 42640 → length (block_written fill own) ≤ 42640
 filled_room true own few = omega (arith, length-append own (drop (length own) lost_block), length-drop (length own) lost_block, block_length)
 filled_room false own few = few

@@ -9,9 +9,9 @@ use Rattle.dvd_ports.proofs.StopLemmas.{fails_after, goes_on, unmoved}
 use Rattle.dvd_ports.specs.Causes.{HasFailed, HasGoneOn}
 use Rattle.dvd_ports.specs.Seen.{Seen}
 use Rattle.dvd_ports.specs.Whole.{AppendsPrefix}
-use Rattle.cap_interleave.specs.Blocks.{Captures, Task, block_of, unit_of, units_of}
-use Rattle.cap_interleave.specs.Inner.{AreReadTo, BuffersState, ChecksTo, EndsBroken, GivesBlock, IsBrokenAt, IsTurn, SomeCame, filled_blocks, fresh, task_of}
-use Rattle.cap_interleave.specs.Interleaved.{AreDue, EndsAfter, Gives, HasBroken, HasGiven, HaveSome, IsCutWithin, IsFirstShort, IsInterleaved, Writes}
+use Rattle.cap_interleave.specs.Blocks.{CaptureBytes, Task, capture_block, unit_bytes, units_of}
+use Rattle.cap_interleave.specs.Inner.{AreReadTo, BuffersState, ChecksTo, EndsBroken, GivesBlock, HasFailedAt, IsTurn, SomeCame, filled_blocks, fresh, task_of}
+use Rattle.cap_interleave.specs.Interleaved.{AreDue, EndsInterleave, Gives, HasFailedWithin, HasGiven, HaveSome, IsCutWithin, IsFirstShort, IsInterleaved, Writes}
 use Rattle.cap_interleave.specs.declared.ends.InterleaveEnd.{InterleaveEnd}
 use Rattle.cap_interleave.specs.declared.ends.InterleaveEnd.TheVariants.{Done, Long, ReadFault, Short, WriteFault}
 use Rattle.cap_interleave.proofs.StepLemmas.{Consumes-none, IsStepped, Stands, block_before, stepped}
@@ -19,7 +19,7 @@ use Rattle.cap_interleave.proofs.UnitLemmas.{due_kept, then, unit_is, units_kept
 
 -- So many blocks of each capture were read and written.
 pub record IsAfter {S : Type 0} (seen : S → Seen) (task : Task) (k : ℕ) (buffers : BuffersState) (olds news : List S) (old new : Seen) : Type 0 where
-  pub came : Captures
+  pub came : CaptureBytes
   pub size : buffers.size ≡ task.size
   pub fill : buffers.fill ≡ task.fill
   pub count : length buffers.held ≡ task.count
@@ -76,7 +76,7 @@ module _ {S : Type 0} (seen : S → Seen) (task : Task) (k : ℕ) (b b2 : Buffer
   units_stay = units_kept task (then a.came r.owns) a.came k (λ c j inside before. (at c inside).before j before)
 
   -- and this unit is what was read
-  unit_now : unit_of task (then a.came r.owns) k task.count ≡ b2.unit
+  unit_now : unit_bytes task (then a.came r.owns) k task.count ≡ b2.unit
   unit_now =
       unit_is task (then a.came r.owns) r.owns k task.count (λ c inside. (at c inside).now)
       ∙ ap (λ f. filled_blocks f r.owns task.count) (sym a.fill) ∙ ap (filled_blocks b.fill r.owns) (sym a.captures) ∙ sym r.unit
@@ -185,7 +185,7 @@ module _ {S : Type 0} (seen : S → Seen) (task : Task) (k : ℕ) (b b2 : Buffer
   }
 
 module _ {S : Type 0} (seen : S → Seen) (task : Task) (k : ℕ) (b : BuffersState) (olds mids news : List S) (old mid : Seen)
-    (a : IsAfter seen task k b olds mids old mid) (n : ℕ) (r : IsBrokenAt seen n b mids news) where
+    (a : IsAfter seen task k b olds mids old mid) (n : ℕ) (r : HasFailedAt seen n b mids news) where
   -- A capture before the one that failed is one block further.
   further : (c : ℕ) (d : S) → c < n → IsStepped task.size k (a.came c) (r.owns c) (seen (slice_index_or olds c d)) (seen (slice_index_or news c d))
   further c d earlier =
@@ -203,7 +203,7 @@ module _ {S : Type 0} (seen : S → Seen) (task : Task) (k : ℕ) (b : BuffersSt
     | inr (ended, few) ↦ absurd (omega (arith, ended, (r.breaks d).asked, a.size))
   ]
 
-  breaks_off : (d : S) → HasBroken task.size k (then a.came r.owns n) (seen (slice_index_or olds n d)) (seen (slice_index_or news n d))
+  breaks_off : (d : S) → HasFailedWithin task.size k (then a.came r.owns n) (seen (slice_index_or olds n d)) (seen (slice_index_or news n d))
   breaks_off d =
       let grown = length-append (a.came n) (r.owns n) in
       let given = a.given n d inside_is in
@@ -222,14 +222,14 @@ module _ {S : Type 0} (seen : S → Seen) (task : Task) (k : ℕ) (b : BuffersSt
   as_before : (c : ℕ) → n < c → then a.came r.owns c ≡ a.came c
   as_before c later = ap (λ l. a.came c ++ l) (r.none c later) ∙ append-nil (a.came c)
 
-  blocks_stay : (c j : ℕ) → c < task.count → j < k → block_of task.size j (then a.came r.owns c) ≡ block_of task.size j (a.came c)
+  blocks_stay : (c j : ℕ) → c < task.count → j < k → capture_block task.size j (then a.came r.owns c) ≡ capture_block task.size j (a.came c)
   blocks_stay c j inside before = elim (cases_lt c n) [
     | inl earlier ↦ (further c (any mids c (omega (arith, inside, a.captures))) earlier).before j before
     | inr from ↦ elim (cases_lt n c) [
-      | inl later ↦ ap (block_of task.size j) (as_before c later)
+      | inl later ↦ ap (capture_block task.size j) (as_before c later)
       | inr to ↦
           let is : n ≡ c = omega (arith, from, to) in
-          subst (λ m. block_of task.size j (then a.came r.owns m) ≡ block_of task.size j (a.came m)) is
+          subst (λ m. capture_block task.size j (then a.came r.owns m) ≡ capture_block task.size j (a.came m)) is
           (block_before task.size k j (a.came n) (r.owns n) before (omega (arith, whole_so_far (any mids c (omega (arith, inside, a.captures))))))
     ]
   ]
@@ -242,7 +242,7 @@ module _ {S : Type 0} (seen : S → Seen) (task : Task) (k : ℕ) (b : BuffersSt
     due = λ j before. due_kept task a.came r.owns j (a.due j before);
     gives = λ c d inside. (
       λ earlier. (further c d earlier).given,
-      λ is. subst (λ m. HasBroken task.size k (then a.came r.owns m) (seen (slice_index_or olds m d)) (seen (slice_index_or news m d))) (sym is) (breaks_off d),
+      λ is. subst (λ m. HasFailedWithin task.size k (then a.came r.owns m) (seen (slice_index_or olds m d)) (seen (slice_index_or news m d))) (sym is) (breaks_off d),
       λ later.
           subst (λ l. HasGiven task.size k l (seen (slice_index_or olds c d)) (seen (slice_index_or news c d))) (sym (as_before c later))
           (subst (λ s. HasGiven task.size k (a.came c) (seen (slice_index_or olds c d)) (seen s)) (sym (r.others c d later)) (a.given c d inside)),

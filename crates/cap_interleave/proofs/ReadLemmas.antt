@@ -3,34 +3,34 @@ use Rattle.std.proofs.Common.{◌≡◌, ◌≢◌, ◌∙◌, inl, inr, ◌+◌
 use Rattle.std.proofs.lemmas.Bool.{cases_lt, le-ltb, lt-ltb}
 use Rattle.std.proofs.lemmas.List.{get_or-set_other, get_or-set_same, length-set}
 use Rattle.dvd_ports.specs.Seen.{Seen}
-use Rattle.cap_interleave.specs.Blocks.{Captures, filled}
-use Rattle.cap_interleave.specs.Inner.{AreReadTo, BreaksBlock, BuffersState, GivesBlock, IsBrokenAt, IsReadInto, filled_blocks}
+use Rattle.cap_interleave.specs.Blocks.{CaptureBytes, block_written}
+use Rattle.cap_interleave.specs.Inner.{AreReadTo, BreaksBlock, BuffersState, GivesBlock, HasFailedAt, IsReadInto, filled_blocks}
 
 -- what came of each of the first n captures, this of the next, and nothing of those after it
-abbrev pub put_at : ℕ → List ℕ → Captures → Captures
+abbrev pub put_at : ℕ → List ℕ → CaptureBytes → CaptureBytes
 put_at n own owns c = if nat_lt c n then owns c else (if nat_lt n c then [] else own)
 
-put_below : (n : ℕ) (own : List ℕ) (owns : Captures) (c : ℕ) → c < n → put_at n own owns c ≡ owns c
+put_below : (n : ℕ) (own : List ℕ) (owns : CaptureBytes) (c : ℕ) → c < n → put_at n own owns c ≡ owns c
 put_below n own owns c below = rw (lt-ltb c n below) refl
 
-put_here : (n : ℕ) (own : List ℕ) (owns : Captures) → put_at n own owns n ≡ own
+put_here : (n : ℕ) (own : List ℕ) (owns : CaptureBytes) → put_at n own owns n ≡ own
 put_here n own owns = rw (le-ltb n n (omega arith)) refl
 
-put_above : (n : ℕ) (own : List ℕ) (owns : Captures) (c : ℕ) → n < c → put_at n own owns c ≡ []
+put_above : (n : ℕ) (own : List ℕ) (owns : CaptureBytes) (c : ℕ) → n < c → put_at n own owns c ≡ []
 put_above n own owns c above = rw (le-ltb c n (omega arith), lt-ltb n c above) refl
 
 -- the blocks of the first captures
-blocks_same : (fill : _) (a b : Captures) (n : ℕ) → ((c : ℕ) → c < n → a c ≡ b c) → filled_blocks fill a n ≡ filled_blocks fill b n
+blocks_same : (fill : _) (a b : CaptureBytes) (n : ℕ) → ((c : ℕ) → c < n → a c ≡ b c) → filled_blocks fill a n ≡ filled_blocks fill b n
 unfolding filled_blocks
 blocks_same fill a b zero same = refl
 blocks_same fill a b (suc n) same =
-    ap (λ l. l ++ filled fill (a n)) (blocks_same fill a b n (λ c below. same c (omega arith))) ∙ ap (λ o. filled_blocks fill b n ++ filled fill o) (same n (omega arith))
+    ap (λ l. l ++ block_written fill (a n)) (blocks_same fill a b n (λ c below. same c (omega arith))) ∙ ap (λ o. filled_blocks fill b n ++ block_written fill o) (same n (omega arith))
 
-blocks_none : (fill : _) (owns : Captures) → filled_blocks fill owns 0 ≡ []
+blocks_none : (fill : _) (owns : CaptureBytes) → filled_blocks fill owns 0 ≡ []
 unfolding filled_blocks
 blocks_none fill owns = refl
 
-blocks_more : (fill : _) (owns : Captures) (n : ℕ) → filled_blocks fill owns (n + 1) ≡ filled_blocks fill owns n ++ filled fill (owns n)
+blocks_more : (fill : _) (owns : CaptureBytes) (n : ℕ) → filled_blocks fill owns (n + 1) ≡ filled_blocks fill owns n ++ block_written fill (owns n)
 unfolding filled_blocks
 blocks_more fill owns n = rw (add-one n) refl
 
@@ -65,7 +65,7 @@ module _ {S : Type 0} (seen : S → Seen) (n : ℕ) (b b1 : BuffersState) (olds 
   one_read b2 before was counted into =
       let owns = put_at n into.own r.owns in
       let held2 : b2.held ≡ slice_set b1.held n (length into.own) = ap (λ (b : BuffersState). b.held) into.becomes in
-      let unit2 : b2.unit ≡ b1.unit ++ filled b1.fill into.own = ap (λ (b : BuffersState). b.unit) into.becomes in
+      let unit2 : b2.unit ≡ b1.unit ++ block_written b1.fill into.own = ap (λ (b : BuffersState). b.unit) into.becomes in
       record {
         owns = owns;
         gives = λ c d below. elim (cases_lt c n) [
@@ -98,15 +98,15 @@ module _ {S : Type 0} (seen : S → Seen) (n : ℕ) (b b1 : BuffersState) (olds 
         count = ap length held2 ∙ length-set b1.held n (length into.own) ∙ r.count;
         captures = length-set mids n x ∙ r.captures;
         unit =
-            unit2 ∙ ap (λ l. l ++ filled b1.fill into.own) (r.unit ∙ blocks_same b.fill r.owns owns n (λ c below. sym (put_below n into.own r.owns c below)))
-            ∙ ap (λ f. filled_blocks b.fill owns n ++ filled f into.own) r.fill ∙ ap (λ o. filled_blocks b.fill owns n ++ filled b.fill o) (sym (put_here n into.own r.owns))
+            unit2 ∙ ap (λ l. l ++ block_written b1.fill into.own) (r.unit ∙ blocks_same b.fill r.owns owns n (λ c below. sym (put_below n into.own r.owns c below)))
+            ∙ ap (λ f. filled_blocks b.fill owns n ++ block_written f into.own) r.fill ∙ ap (λ o. filled_blocks b.fill owns n ++ block_written b.fill o) (sym (put_here n into.own r.owns))
             ∙ sym (blocks_more b.fill owns n);
         room = omega (arith, into.room, r.room);
       }
 
   -- a read of it failed
   pub one_broken : (before : S) (own : List ℕ) → ((d : S) → slice_index_or mids n d ≡ before) → BreaksBlock b1.size (slice_index b1.held n) own (seen before) (seen x)
-      → IsBrokenAt seen n b olds (slice_set mids n x)
+      → HasFailedAt seen n b olds (slice_set mids n x)
   one_broken before own was breaks =
       let owns = put_at n own r.owns in
       record {

@@ -8,7 +8,7 @@ use Rattle.dvd_ports.proofs.KnownLemmas.{Consumes-then}
 use Rattle.dvd_ports.proofs.StopLemmas.{ends_after, goes_on}
 use Rattle.dvd_ports.specs.Causes.{HasGoneOn}
 use Rattle.dvd_ports.specs.Seen.{Seen}
-use Rattle.cap_interleave.specs.Blocks.{block_of}
+use Rattle.cap_interleave.specs.Blocks.{capture_block}
 use Rattle.cap_interleave.specs.Inner.{GivesBlock}
 use Rattle.cap_interleave.specs.Interleaved.{HasGiven}
 
@@ -18,15 +18,15 @@ Consumes-none None = tt
 Consumes-none (Some bytes) = refl
 
 -- the block that comes after whole blocks, and one that comes after the end
-pub block_now : (size k : ℕ) (came own : List ℕ) → length came ≡ size * k → length own ≤ size → block_of size k (came ++ own) ≡ own
+pub block_now : (size k : ℕ) (came own : List ℕ) → length came ≡ size * k → length own ≤ size → capture_block size k (came ++ own) ≡ own
 block_now size k came own whole few =
     ap (λ n. take size (drop n (came ++ own))) (sym whole) ∙ ap (take size) (drop-append_seam came own) ∙ take_all size own few
 
-pub block_past : (size k : ℕ) (came : List ℕ) → length came ≤ size * k → block_of size k came ≡ []
+pub block_past : (size k : ℕ) (came : List ℕ) → length came ≤ size * k → capture_block size k came ≡ []
 block_past size k came few = ap (take size) (drop_all (size * k) came few) ∙ take_all size [] (omega arith)
 
 -- a block before it stays
-pub block_before : (size k j : ℕ) (came own : List ℕ) → j < k → size * k ≤ length came → block_of size j (came ++ own) ≡ block_of size j came
+pub block_before : (size k j : ℕ) (came own : List ℕ) → j < k → size * k ≤ length came → capture_block size j (came ++ own) ≡ capture_block size j came
 block_before size k j came own before whole =
     let below : suc j ≤ k = omega arith in
     let inside : size * j + size ≤ size * k = omega (arith, mul-suc size j, mul-le-mul_left size below) in
@@ -38,8 +38,8 @@ Stands size k held came = ((size ≤ held) × (length came ≡ size * k)) ⊎ ((
 
 -- These bytes are what came of block k of a capture, after those that came before.
 pub record IsStepped (size k : ℕ) (came own : List ℕ) (old new : Seen) : Type 0 where
-  pub now : block_of size k (came ++ own) ≡ own
-  pub before : (j : ℕ) → j < k → block_of size j (came ++ own) ≡ block_of size j came
+  pub now : capture_block size k (came ++ own) ≡ own
+  pub before : (j : ℕ) → j < k → capture_block size j (came ++ own) ≡ capture_block size j came
   pub stands : Stands size (suc k) (length own) (came ++ own)
   pub given : HasGiven size (suc k) (came ++ own) old new
   pub some : 0 < length own → size * k < length (came ++ own)
@@ -61,8 +61,8 @@ ended_step size k held came old new ended few given =
     let size_same : length (came ++ []) ≡ length came = ap length same in
     let next : size * suc k ≡ size * k + size = mul-suc size k in
     record {
-      now = ap (block_of size k) same ∙ block_past size k came (omega (arith, few));
-      before = λ j before. ap (block_of size j) same;
+      now = ap (capture_block size k) same ∙ block_past size k came (omega (arith, few));
+      before = λ j before. ap (capture_block size j) same;
       stands = inr (omega (arith, ended), omega (arith, size_same, next, few));
       given = record {
         reads = subst (Consumes old.bytes new.bytes) (sym same) given.reads;

@@ -4,7 +4,7 @@ use Rattle.std.proofs.Math.Nat.{mul-le-mul_left, mul-suc}
 use Rattle.std.proofs.lemmas.Bool.{cases_lt}
 use Rattle.std.specs.Io.KnownBytes.{Appends, Consumes, IsAtEnd}
 use Rattle.dvd_ports.specs.Seen.{Seen}
-use Rattle.cap_interleave.specs.Blocks.{Captures, Task, block_of, units_of}
+use Rattle.cap_interleave.specs.Blocks.{CaptureBytes, Task, capture_block, units_of}
 use Rattle.cap_interleave.specs.Interleaved.{HasGiven, HaveSome, IsInterleaved}
 use Rattle.cap_interleave.specs.Laws.{IsFaultless, WholeCapturesComeWhole}
 use Rattle.cap_interleave.specs.declared.ends.InterleaveEnd.{InterleaveEnd}
@@ -35,11 +35,11 @@ no_more size m capture came old new told given =
     let parts = front old.bytes new.bytes capture came told given.reads in
     omega (arith, ap length parts.2, length-append came parts.0)
 
-module _ (S : Type 0) (seen : S → Seen) (task : Task) (olds news : List S) (captures : Captures) (n : ℕ)
+module _ (S : Type 0) (seen : S → Seen) (task : Task) (olds news : List S) (captures : CaptureBytes) (n : ℕ)
     (told : (c : ℕ) (d : S) → c < task.count → (seen (slice_index_or olds c d)).bytes ≡ Some (captures c))
     (sizes : (c : ℕ) → c < task.count → length (captures c) ≡ task.size * n) (enough : task.count ≤ length olds) where
   -- no capture has a byte of a unit from the n-th on
-  none_past : (m k : ℕ) (came : Captures) → ((c : ℕ) (d : S) → c < task.count → HasGiven task.size m (came c) (seen (slice_index_or olds c d)) (seen (slice_index_or news c d)))
+  none_past : (m k : ℕ) (came : CaptureBytes) → ((c : ℕ) (d : S) → c < task.count → HasGiven task.size m (came c) (seen (slice_index_or olds c d)) (seen (slice_index_or news c d)))
       → n ≤ k → HaveSome task came k → ⊥
   none_past m k came given past some =
       let d = any olds some.0 (omega (arith, some.1, enough)) in
@@ -61,7 +61,7 @@ module _ (S : Type 0) (seen : S → Seen) (task : Task) (olds news : List S) (ca
         | inr few ↦ few
       ] in
       let units : is.units ≡ n = omega (arith, reached, none) in
-      subst (Appends old.bytes new.bytes) (ap (units_of task is.came) units ∙ units_kept task is.came captures n (λ c k inside below. ap (block_of task.size k) (same c inside))) is.writes.0
+      subst (Appends old.bytes new.bytes) (ap (units_of task is.came) units ∙ units_kept task is.came captures n (λ c k inside below. ap (capture_block task.size k) (same c inside))) is.writes.0
 
 pub whole_captures : {S : Type 0} (seen : S → Seen) → WholeCapturesComeWhole seen
 whole_captures {S} seen task olds news old new Done captures n told sizes some_size some_count enough few is sound =

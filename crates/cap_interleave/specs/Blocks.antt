@@ -8,12 +8,12 @@ pub record Task : Type 0 where
   pub count : ℕ
 
 -- the bytes of each capture
-abbrev pub Captures : Type 0
-Captures = ℕ → List ℕ
+abbrev pub CaptureBytes : Type 0
+CaptureBytes = ℕ → List ℕ
 
 -- the bytes of block k of a capture, as far as it has them
-abbrev pub block_of : ℕ → ℕ → List ℕ → List ℕ
-block_of size k capture = take size (drop (size * k) capture)
+abbrev pub capture_block : ℕ → ℕ → List ℕ → List ℕ
+capture_block size k capture = take size (drop (size * k) capture)
 
 -- a recorded row of the marked form that is marked whole: 182 zeros, and a mark for each
 abbrev pub lost_row : List ℕ
@@ -30,16 +30,16 @@ lost_block = lost_rows 208
 
 -- What is written for a block of which these bytes came. Where blocks are filled, the missing bytes are as in a block
 -- that is marked whole.
-abbrev pub filled : Bool → List ℕ → List ℕ
-filled true own = own ++ drop (length own) lost_block
-filled false own = own
+abbrev pub block_written : Bool → List ℕ → List ℕ
+block_written true own = own ++ drop (length own) lost_block
+block_written false own = own
 
 -- block k of each of the first captures, one after the other
-unfoldable pub unit_of : Task → Captures → ℕ → ℕ → List ℕ
-unit_of task captures k zero = []
-unit_of task captures k (suc c) = unit_of task captures k c ++ filled task.fill (block_of task.size k (captures c))
+unfoldable pub unit_bytes : Task → CaptureBytes → ℕ → ℕ → List ℕ
+unit_bytes task captures k zero = []
+unit_bytes task captures k (suc c) = unit_bytes task captures k c ++ block_written task.fill (capture_block task.size k (captures c))
 
 -- block 0 of all captures, then block 1 of all, and so on, for that many blocks
-unfoldable pub units_of : Task → Captures → ℕ → List ℕ
+unfoldable pub units_of : Task → CaptureBytes → ℕ → List ℕ
 units_of task captures zero = []
-units_of task captures (suc k) = units_of task captures k ++ unit_of task captures k task.count
+units_of task captures (suc k) = units_of task captures k ++ unit_bytes task captures k task.count

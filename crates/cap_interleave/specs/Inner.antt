@@ -2,7 +2,7 @@
 -- and no law does.
 use Rattle.std.specs.Prelude.{◌≡◌, ◌⊎◌, ℕ, zero, suc, ◌+◌, ◌*◌, ◌<◌, ◌≤◌, Bool, false, List, [], ◌++◌, length, replicate, slice_index, slice_index_or, slice_set, Result, Ok, Err}
 use Rattle.std.specs.Io.KnownBytes.{Appends, Consumes, IsAtEnd}
-use Rattle.cap_interleave.specs.Blocks.{Captures, Task, filled}
+use Rattle.cap_interleave.specs.Blocks.{CaptureBytes, Task, block_written}
 use Rattle.cap_interleave.specs.declared.ends.InterleaveEnd.{InterleaveEnd}
 use Rattle.cap_interleave.specs.declared.ends.InterleaveEnd.TheVariants.{Done, ReadFault, Short, WriteFault}
 use Rattle.dvd_ports.specs.Causes.{HasFailed, HasGoneOn, HasMetEnd}
@@ -38,24 +38,24 @@ pub record BreaksBlock (size before : ℕ) (own : List ℕ) (old new : Seen) : T
   pub fewer : length own < size
   pub failed : HasFailed old new
 
-abbrev pub Breaks : ℕ → ℕ → Seen → Seen → Type 0
-Breaks size before old new = (own : List ℕ) × BreaksBlock size before own old new
+abbrev pub BreaksSomeBlock : ℕ → ℕ → Seen → Seen → Type 0
+BreaksSomeBlock size before old new = (own : List ℕ) × BreaksBlock size before own old new
 
 -- A block of capture c was read, and added at the end of the unit.
 pub record IsReadInto (c : ℕ) (old new : BuffersState) (before after : Seen) : Type 0 where
   pub own : List ℕ
   pub gives : GivesBlock old.size (slice_index old.held c) own before after
-  pub becomes : new ≡ record old { held = slice_set old.held c (length own); unit = old.unit ++ filled old.fill own }
+  pub becomes : new ≡ record old { held = slice_set old.held c (length own); unit = old.unit ++ block_written old.fill own }
   pub room : length new.unit ≤ length old.unit + 42_640
 
 -- the blocks of the first captures, one after the other
-unfoldable pub filled_blocks : Bool → Captures → ℕ → List ℕ
+unfoldable pub filled_blocks : Bool → CaptureBytes → ℕ → List ℕ
 filled_blocks fill owns zero = []
-filled_blocks fill owns (suc c) = filled_blocks fill owns c ++ filled fill (owns c)
+filled_blocks fill owns (suc c) = filled_blocks fill owns c ++ block_written fill (owns c)
 
 -- A block of each of the first n captures was read into the unit; the others are as they were.
 pub record AreReadTo {S : Type 0} (seen : S → Seen) (n : ℕ) (old new : BuffersState) (olds news : List S) : Type 0 where
-  pub owns : Captures
+  pub owns : CaptureBytes
   pub gives : (c : ℕ) (d : S) → c < n → GivesBlock old.size (slice_index old.held c) (owns c) (seen (slice_index_or olds c d)) (seen (slice_index_or news c d))
   pub none : (c : ℕ) → n ≤ c → owns c ≡ []
   pub others : (c : ℕ) (d : S) → n ≤ c → slice_index_or news c d ≡ slice_index_or olds c d
@@ -69,9 +69,9 @@ pub record AreReadTo {S : Type 0} (seen : S → Seen) (n : ℕ) (old new : Buffe
   pub room : length new.unit ≤ 42_640 * n
 
 -- A read of capture b failed within the block; those before it were read, and those after it are as they were.
-pub record IsBrokenAt {S : Type 0} (seen : S → Seen) (b : ℕ) (old : BuffersState) (olds news : List S) : Type 0 where
+pub record HasFailedAt {S : Type 0} (seen : S → Seen) (b : ℕ) (old : BuffersState) (olds news : List S) : Type 0 where
   pub capture : b < length olds
-  pub owns : Captures
+  pub owns : CaptureBytes
   pub gives : (c : ℕ) (d : S) → c < b → GivesBlock old.size (slice_index old.held c) (owns c) (seen (slice_index_or olds c d)) (seen (slice_index_or news c d))
   pub breaks : (d : S) → BreaksBlock old.size (slice_index old.held b) (owns b) (seen (slice_index_or olds b d)) (seen (slice_index_or news b d))
   pub none : (c : ℕ) → b < c → owns c ≡ []
@@ -79,7 +79,7 @@ pub record IsBrokenAt {S : Type 0} (seen : S → Seen) (b : ℕ) (old : BuffersS
 
 -- a unit isn't read, and the loop ends there
 abbrev pub EndsBroken : {S : Type 0} → (S → Seen) → BuffersState → List S → List S → InterleaveEnd → Type 0
-EndsBroken seen old olds news (ReadFault b) = IsBrokenAt seen b old olds news
+EndsBroken seen old olds news (ReadFault b) = HasFailedAt seen b old olds news
 EndsBroken seen old olds news end = ⊥
 
 -- a byte of some block was read
@@ -99,7 +99,7 @@ ChecksTo buffers k (Err end) = ⊥
 abbrev pub IsTurn : {S : Type 0} → (S → Seen) → ℕ → BuffersState → BuffersState → List S → List S → Seen → Seen → Result (Unit {0}) InterleaveEnd → Type 0
 IsTurn seen k old new olds news before after (Ok value) =
     AreReadTo seen (length olds) old new olds news × ChecksTo new k (Ok value) × Appends before.bytes after.bytes new.unit × HasGoneOn before after
-IsTurn seen k old new olds news before after (Err (ReadFault b)) = IsBrokenAt seen b old olds news × (after ≡ before)
+IsTurn seen k old new olds news before after (Err (ReadFault b)) = HasFailedAt seen b old olds news × (after ≡ before)
 IsTurn seen k old new olds news before after (Err WriteFault) =
     AreReadTo seen (length olds) old new olds news × ChecksTo new k (Ok tt) × AppendsPrefix before.bytes after.bytes new.unit × HasFailed before after
 IsTurn seen k old new olds news before after (Err end) =

@@ -1,7 +1,7 @@
 -- What holds of blocks in turn.
 use Rattle.std.specs.Prelude.{◌≡◌, ℕ, ◌*◌, ◌<◌, ◌≤◌, ◌^◌, ◌-◌, true, List, length, replicate, slice_index_or, Some}
 use Rattle.std.specs.Io.KnownBytes.{Appends}
-use Rattle.cap_interleave.specs.Blocks.{Captures, Task, block_of, lost_block, units_of}
+use Rattle.cap_interleave.specs.Blocks.{CaptureBytes, Task, capture_block, lost_block, units_of}
 use Rattle.cap_interleave.specs.Interleaved.{IsInterleaved}
 use Rattle.cap_interleave.specs.declared.ends.InterleaveEnd.{InterleaveEnd}
 use Rattle.cap_interleave.specs.declared.ends.InterleaveEnd.TheVariants.{Done, ReadFault, WriteFault}
@@ -17,9 +17,9 @@ LostBlockIsMarkedWhole = captured_marks Marked lost_block ≡ replicate 208 (rep
 -- into units of one block of each capture, and place c of unit k is block k of capture c.
 abbrev pub BlocksAreInMergeOrder : Type 0
 BlocksAreInMergeOrder =
-    (task : Task) (captures : Captures) (n k c : ℕ) → (task.fill ≡ true → task.size ≡ length lost_block)
+    (task : Task) (captures : CaptureBytes) (n k c : ℕ) → (task.fill ≡ true → task.size ≡ length lost_block)
     → ((b : ℕ) → b < task.count → task.size * n ≤ length (captures b)) → k < n → c < task.count
-    → block_of task.size c (block_of (task.count * task.size) k (units_of task captures n)) ≡ block_of task.size k (captures c)
+    → capture_block task.size c (capture_block (task.count * task.size) k (units_of task captures n)) ≡ capture_block task.size k (captures c)
 
 -- no fault ended it
 abbrev pub IsFaultless : InterleaveEnd → Type 0
@@ -30,7 +30,7 @@ IsFaultless end = Unit {0}
 -- Captures of the same number of whole blocks, fewer than 2 ^ 32 - 1, are written whole where no stream failed.
 abbrev pub WholeCapturesComeWhole : {S : Type 0} → (S → Seen) → Type 0
 WholeCapturesComeWhole {S} seen =
-    (task : Task) (olds news : List S) (old new : Seen) (end : InterleaveEnd) (captures : Captures) (n : ℕ)
+    (task : Task) (olds news : List S) (old new : Seen) (end : InterleaveEnd) (captures : CaptureBytes) (n : ℕ)
     → ((c : ℕ) (d : S) → c < task.count → (seen (slice_index_or olds c d)).bytes ≡ Some (captures c))
     → ((c : ℕ) → c < task.count → length (captures c) ≡ task.size * n) → 0 < task.size → 0 < task.count → task.count ≤ length olds → n < 2 ^ 32 - 1
     → IsInterleaved seen task olds news old new end → IsFaultless end → (end ≡ Done) × Appends old.bytes new.bytes (units_of task captures n)

@@ -5,8 +5,8 @@ ghost use Rattle.std.specs.List.{list_all};
 ghost use Rattle.dvd_capture.specs.Captured.{block_size, HasSize};
 ghost use Rattle.dvd_capture.specs.declared.form.Form.TheVariants.{Marked as marked};
 ghost use Rattle.dvd_ports.specs.Whole.{IsWritten};
-ghost use Rattle.cap_interleave.specs.Blocks.{filled, lost_block, lost_row};
-ghost use Rattle.cap_interleave.specs.Inner.{Breaks, ChecksTo, GivesBlock, IsReadInto, fresh};
+ghost use Rattle.cap_interleave.specs.Blocks.{block_written, lost_block, lost_row};
+ghost use Rattle.cap_interleave.specs.Inner.{BreaksSomeBlock, ChecksTo, GivesBlock, IsReadInto, fresh};
 
 use crate::ends::InterleaveEnd;
 use dvd_capture::Form;
@@ -73,7 +73,7 @@ impl Buffers {
         requires capture { c < length self.old.held }
         requires room { length self.old.unit ≤ 42_640 * c }
         ensures read { OnOk result (IsReadInto c self.old self.new (S.seen src.old) (S.seen src.new)) }
-        ensures broken { OnErr result (Breaks self.old.size (slice_index self.old.held c) (S.seen src.old) (S.seen src.new)) }
+        ensures broken { OnErr result (BreaksSomeBlock self.old.size (slice_index self.old.held c) (S.seen src.old) (S.seen src.new)) }
     {
         let held = fetch(&mut self.block, self.held[c], src)?;
         self.held[c] = held;
@@ -130,7 +130,7 @@ fn fetch<S: Source>(block: &mut [u8], before: usize, src: &mut S) -> Result<usiz
     ensures size { length block.new ≡ length block.old }
     ensures bound { IfOk result (λ held. held ≤ length block.old) }
     ensures gives { IfOk result (λ held. GivesBlock (length block.old) before (take held block.new) (S.seen src.old) (S.seen src.new)) }
-    ensures broken { OnErr result (Breaks (length block.old) before (S.seen src.old) (S.seen src.new)) }
+    ensures broken { OnErr result (BreaksSomeBlock (length block.old) before (S.seen src.old) (S.seen src.new)) }
 {
     if before < block.len() {
         return Ok(0);
@@ -143,7 +143,7 @@ fn put_block(unit: &mut Vec<u8>, own: &[u8], lost: &Option<Vec<u8>>)
     requires room { vec_len unit.old + 42_640 ≤ vec_capacity unit.old }
     requires own { length own.now ≤ 42_640 }
     requires lost { IfSome lost.now (λ block. (block.items ≡ lost_block) × (vec_len block ≡ 42_640)) }
-    ensures items { unit.new.items ≡ unit.old.items ++ filled (is_some lost.now) own.now }
+    ensures items { unit.new.items ≡ unit.old.items ++ block_written (is_some lost.now) own.now }
     ensures len { vec_len unit.new ≤ vec_len unit.old + 42_640 }
     ensures capacity { vec_capacity unit.old ≤ vec_capacity unit.new }
 {

@@ -7,17 +7,17 @@ use Rattle.dvd_ports.specs.Seen.{Seen}
 use Rattle.dvd_ports.specs.Whole.{AppendsPrefix, IsWritten}
 use Rattle.dvd_ports.proofs.KnownLemmas.{Appends-none, Appends-then}
 use Rattle.dvd_ports.proofs.StopLemmas.{fails_after, goes_on, unmoved}
-use Rattle.cap_lost.specs.Inner.{IsLeft}
-use Rattle.cap_lost.specs.Map.{end_of, extent_lines, last_lines, lines_from, sectors_line}
+use Rattle.cap_lost.specs.Inner.{IsUnwritten}
+use Rattle.cap_lost.specs.Map.{last_end, extent_lines, last_lines, lines_from, sectors_line}
 use Rattle.cap_lost.specs.declared.extent.Extent.{Extent}
 
 -- nothing was written
-pub none_written : (old : Seen) (whole : List ℕ) → IsLeft whole whole old old
+pub none_written : (old : Seen) (whole : List ℕ) → IsUnwritten whole whole old old
 none_written old whole = record { front = []; grows = Appends-none old.bytes; splits = refl; steady = unmoved old }
 
 -- a piece more
-pub more_written : (old mid new : Seen) (whole piece rest : List ℕ) → IsLeft whole (piece ++ rest) old mid → Appends mid.bytes new.bytes piece
-    → HasGoneOn mid new → IsLeft whole rest old new
+pub more_written : (old mid new : Seen) (whole piece rest : List ℕ) → IsUnwritten whole (piece ++ rest) old mid → Appends mid.bytes new.bytes piece
+    → HasGoneOn mid new → IsUnwritten whole rest old new
 more_written old mid new whole piece rest left grows on = record {
   front = left.front ++ piece;
   grows = Appends-then old.bytes mid.bytes new.bytes left.front piece left.grows grows;
@@ -26,12 +26,12 @@ more_written old mid new whole piece rest left grows on = record {
 }
 
 -- the last piece
-pub all_written : (old mid new : Seen) (whole piece : List ℕ) → IsLeft whole piece old mid → Appends mid.bytes new.bytes piece → Appends old.bytes new.bytes whole
+pub all_written : (old mid new : Seen) (whole piece : List ℕ) → IsUnwritten whole piece old mid → Appends mid.bytes new.bytes piece → Appends old.bytes new.bytes whole
 all_written old mid new whole piece left grows =
     subst (Appends old.bytes new.bytes) left.splits (Appends-then old.bytes mid.bytes new.bytes left.front piece left.grows grows)
 
 -- a front of the piece, where the sink failed
-pub begun_then : (old mid new : Seen) (whole piece rest : List ℕ) → IsLeft whole (piece ++ rest) old mid → AppendsPrefix mid.bytes new.bytes piece
+pub begun_then : (old mid new : Seen) (whole piece rest : List ℕ) → IsUnwritten whole (piece ++ rest) old mid → AppendsPrefix mid.bytes new.bytes piece
     → AppendsPrefix old.bytes new.bytes whole
 begun_then old mid new whole piece rest left begun = record {
   taken = left.front ++ begun.taken;
@@ -56,7 +56,7 @@ writes_failed (Err fault) bytes old new is begun failed = record {
 }
 
 -- the last piece, whether it was written or not
-pub last_written : {E : Type 0} (answer : Result (Unit {0}) E) (whole piece : List ℕ) (old mid new : Seen) → IsLeft whole piece old mid → IsWritten piece mid new answer
+pub last_written : {E : Type 0} (answer : Result (Unit {0}) E) (whole piece : List ℕ) (old mid new : Seen) → IsUnwritten whole piece old mid → IsWritten piece mid new answer
     → IsWritten whole old new answer
 last_written (Ok value) whole piece old mid new left written = record {
   written = all_written old mid new whole piece left written.written;
@@ -64,7 +64,7 @@ last_written (Ok value) whole piece old mid new left written = record {
   cause = record { failed = tt; steady = goes_on old mid new left.steady written.cause.steady };
 }
 last_written (Err fault) whole piece old mid new left written =
-    let before : IsLeft whole (piece ++ []) old mid = subst (λ p. IsLeft whole p old mid) (sym (append-nil piece)) left in
+    let before : IsUnwritten whole (piece ++ []) old mid = subst (λ p. IsUnwritten whole p old mid) (sym (append-nil piece)) left in
     record {
       written = tt;
       begun = begun_then old mid new whole piece [] before written.begun;
@@ -73,17 +73,17 @@ last_written (Err fault) whole piece old mid new left written =
 
 -- the lines of some extents, and those of the extents after them
 pub lines_split : (at written total : ℕ) (front back : List Extent)
-    → lines_from at (front ++ back) written total ≡ extent_lines at front ++ lines_from (end_of at front) back written total
+    → lines_from at (front ++ back) written total ≡ extent_lines at front ++ lines_from (last_end at front) back written total
 lines_split at written total [] back = refl
 lines_split at written total (e ∷ es) back =
     let own = sectors_line at e.from 43 ++ sectors_line e.from e.to 45 in
-    append_assoc own (extent_lines e.to (es ++ back)) (last_lines (end_of e.to (es ++ back)) written total)
+    append_assoc own (extent_lines e.to (es ++ back)) (last_lines (last_end e.to (es ++ back)) written total)
     ∙ ap (λ l. own ++ l) (lines_split e.to written total es back)
-    ∙ sym (append_assoc own (extent_lines e.to es) (lines_from (end_of e.to es) back written total))
+    ∙ sym (append_assoc own (extent_lines e.to es) (lines_from (last_end e.to es) back written total))
 
 -- the same of a list that is cut
 pub lines_cut : (at written total n : ℕ) (extents front back : List Extent) → front ≡ take n extents → back ≡ drop n extents
-    → lines_from at extents written total ≡ extent_lines at front ++ lines_from (end_of at front) back written total
+    → lines_from at extents written total ≡ extent_lines at front ++ lines_from (last_end at front) back written total
 lines_cut at written total n extents front back is rest =
     ap (λ l. lines_from at l written total) (sym (take-append-drop n extents) ∙ ap (λ l. l ++ drop n extents) (sym is) ∙ ap (λ l. front ++ l) (sym rest))
     ∙ lines_split at written total front back

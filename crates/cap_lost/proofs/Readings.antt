@@ -7,15 +7,15 @@ use Rattle.cap_map.specs.Fields.{line_length, lines_of}
 use Rattle.dvd_layout.specs.declared.layout.Layout.{Layout}
 use Rattle.dvd_layout.specs.declared.layout.Zones.{Zones}
 use Rattle.cap_lost.specs.Report.{Losses, Sayings, after_line, line_read, lines_read}
-use Rattle.cap_lost.specs.declared.fault.Cause.{Cause}
-use Rattle.cap_lost.specs.declared.fault.Cause.TheVariants.{Line}
+use Rattle.cap_lost.specs.declared.fault.ReportCause.{ReportCause}
+use Rattle.cap_lost.specs.declared.fault.ReportCause.TheVariants.{Line}
 use Rattle.cap_lost.specs.declared.fault.ReportFault.{ReportFault}
 use Rattle.cap_lost.specs.declared.fault.ReportFault.TheVariants.{Rule}
 use Rattle.cap_lost.proofs.LineEnds.{line_alone, line_ended, overlong}
 
 module _ (layout : Layout) (zones : Zones) (said : Sayings) (number : ℕ) (line : List ℕ) where
   -- what follows a line
-  abbrev then_lines : List (List ℕ) → Result Sayings Cause → Result Losses ReportFault
+  abbrev then_lines : List (List ℕ) → Result Sayings ReportCause → Result Losses ReportFault
   then_lines lines read = after_line number read (λ next. lines_read layout zones next (number + 1) lines)
 
   -- a line that ends is read
@@ -25,7 +25,7 @@ module _ (layout : Layout) (zones : Zones) (said : Sayings) (number : ℕ) (line
       ap (lines_read layout zones said number) (line_ended line rest within) ∙ ap (then_lines (lines_of rest)) read
 
   -- or it breaks a rule
-  pub broken_on : (cause : Cause) (rest : List ℕ) → line_length line ≡ length line → line_read layout zones said line ≡ Err cause
+  pub broken_on : (cause : ReportCause) (rest : List ℕ) → line_length line ≡ length line → line_read layout zones said line ≡ Err cause
       → lines_read layout zones said number (lines_of (line ++ 10 ∷ rest)) ≡ Err (Rule number cause)
   broken_on cause rest within read =
       ap (lines_read layout zones said number) (line_ended line rest within) ∙ ap (then_lines (lines_of rest)) read
@@ -37,7 +37,7 @@ module _ (layout : Layout) (zones : Zones) (said : Sayings) (number : ℕ) (line
       ap (λ l. lines_read layout zones said number (lines_of l)) (append-nil line)
       ∙ ap (lines_read layout zones said number) (line_alone line some within) ∙ ap (then_lines []) read
 
-  pub broken_last : (cause : Cause) → 0 < length line → line_length line ≡ length line → line_read layout zones said line ≡ Err cause
+  pub broken_last : (cause : ReportCause) → 0 < length line → line_length line ≡ length line → line_read layout zones said line ≡ Err cause
       → lines_read layout zones said number (lines_of (line ++ [])) ≡ Err (Rule number cause)
   broken_last cause some within read =
       ap (λ l. lines_read layout zones said number (lines_of l)) (append-nil line)

@@ -10,13 +10,13 @@ use Rattle.dvd_layout.specs.declared.layout.Zones.{Zones}
 use Rattle.dvd_layout.proofs.InOrder.{plan_of-whole}
 use Rattle.cap_lost.specs.Blocks.{after_front, entry_said, extent_of, front_of, is_refusal, is_round, is_text, number_said, what_said}
 use Rattle.cap_lost.specs.Closings.{count_said, counted_in, is_fault, stop_said, stopped_in}
-use Rattle.cap_lost.specs.Fronts.{after, number_first}
+use Rattle.cap_lost.specs.Fronts.{without_prefix, number_first}
 use Rattle.cap_lost.specs.Report.{line_said, word_said}
 use Rattle.cap_lost.specs.declared.draft.Said.{Said}
 use Rattle.cap_lost.specs.declared.draft.Said.TheVariants.{Refused, GivenBack, Ended}
 use Rattle.cap_lost.specs.declared.extent.Extent.{Extent}
-use Rattle.cap_lost.specs.declared.fault.Cause.{Cause}
-use Rattle.cap_lost.specs.declared.fault.Cause.TheVariants.{Line, Block, NoImage, Fault}
+use Rattle.cap_lost.specs.declared.fault.ReportCause.{ReportCause}
+use Rattle.cap_lost.specs.declared.fault.ReportCause.TheVariants.{Line, Block, NoImage, Fault}
 
 module _ {A E : Type 0} where
   -- the answer of a test that wasn't refused
@@ -54,7 +54,7 @@ module _ (layout : Layout) (zones : Zones) (said : Said) where
 
   by_entry : (k : ℕ) (line : List ℕ) (entry : Option BlockPlan) → entry_said layout k line entry ≡ Ok said → IsOfImage layout said
   by_entry k line None is = absurd cc
-  by_entry k line (Some entry) is = by_front entry (after (front_of k entry) line) is
+  by_entry k line (Some entry) is = by_front entry (without_prefix (front_of k entry) line) is
 
   by_number : (line : List ℕ) (found : Option (ℕ × List ℕ)) → number_said layout zones line found ≡ Ok said → IsOfImage layout said
   by_number line None is = absurd cc
@@ -82,10 +82,10 @@ module _ (layout : Layout) (zones : Zones) (said : Said) where
 
   by_word : (line : List ℕ) (rest : Option (List ℕ)) → word_said layout zones line rest ≡ Ok said → IsOfImage layout said
   by_word line None is =
-      let long : Result Said Cause = if is_text (codes "long") line then Ok (Ended None (total_sectors layout)) else count_said layout (counted_in line) (stop_said layout zones (stopped_in line)) in
+      let long : Result Said ReportCause = if is_text (codes "long") line then Ok (Ended None (total_sectors layout)) else count_said layout (counted_in line) (stop_said layout zones (stopped_in line)) in
       by_long (is_text (codes "long") line) (counted_in line) (stopped_in line) (not_refused (is_fault line) Fault long said is).1
   by_word line (Some rest) is = by_number line (number_first rest) is
 
   -- what a line says
   pub of_image : (line : List ℕ) → line_said layout zones line ≡ Ok said → IsOfImage layout said
-  of_image line is = by_word line (after (codes "block ") line) is
+  of_image line is = by_word line (without_prefix (codes "block ") line) is

@@ -6,8 +6,8 @@ use Rattle.cap_map.specs.Fields.{run_of}
 use Rattle.cap_map.specs.Numbers.{digits_in}
 
 -- what comes after this prefix of a text, if the text has it
-abbrev pub after : List ℕ → List ℕ → Option (List ℕ)
-after front text = if bytes_eq (take (length front) text) front then Some (drop (length front) text) else None
+abbrev pub without_prefix : List ℕ → List ℕ → Option (List ℕ)
+without_prefix front text = if bytes_eq (take (length front) text) front then Some (drop (length front) text) else None
 
 -- how many decimal digits a text begins with
 abbrev pub digits_of : List ℕ → ℕ
@@ -28,5 +28,5 @@ abbrev pub is_capital_digit : ℕ → Bool
 is_capital_digit c = is_digit c 10 || (nat_le 65 c && nat_le c 70)
 
 -- a text without eight such digits, if it begins with them
-abbrev pub after_word : List ℕ → Option (List ℕ)
-after_word text = if nat_le 8 (length text) && list_all is_capital_digit (take 8 text) then Some (drop 8 text) else None
+abbrev pub after_eight_digits : List ℕ → Option (List ℕ)
+after_eight_digits text = if nat_le 8 (length text) && list_all is_capital_digit (take 8 text) then Some (drop 8 text) else None

@@ -7,22 +7,22 @@ use Rattle.dvd_layout.specs.declared.layout.Zones.{Zones}
 use Rattle.dvd_ports.specs.Causes.{HasGoneOn}
 use Rattle.dvd_ports.specs.Seen.{Seen}
 use Rattle.cap_lost.specs.Report.{Losses, Sayings, lines_read, losses_of}
-use Rattle.cap_lost.specs.declared.draft.Draft.{Draft}
+use Rattle.cap_lost.specs.declared.draft.LossesDraft.{LossesDraft}
 use Rattle.cap_lost.specs.declared.draft.Said.{Said}
 use Rattle.cap_lost.specs.declared.draft.Said.TheVariants as said
-use Rattle.cap_lost.specs.declared.draft.Stop.{Stop}
-use Rattle.cap_lost.specs.declared.draft.Stop.TheVariants as stop
-use Rattle.cap_lost.specs.declared.fault.Cause.{Cause}
+use Rattle.cap_lost.specs.declared.draft.ReportStop.{ReportStop}
+use Rattle.cap_lost.specs.declared.draft.ReportStop.TheVariants as stop
+use Rattle.cap_lost.specs.declared.fault.ReportCause.{ReportCause}
 use Rattle.cap_lost.specs.declared.fault.ReportFault.{ReportFault}
 use Rattle.cap_lost.specs.declared.fault.ReportFault.TheVariants as faults
 use Rattle.cap_lost.specs.declared.reader.Reader.{Reader}
 
 -- a draft, as what was said
-abbrev pub sayings_of : Draft → Sayings
+abbrev pub sayings_of : LossesDraft → Sayings
 sayings_of draft = record { extents = draft.extents.items; next = draft.next; refused = draft.refused; written = draft.written }
 
 -- a line isn't accepted because it breaks this rule, or there is no memory
-abbrev pub IsStopOf : {A : Type 0} → Result A Cause → Stop → Type 0
+abbrev pub IsStopOf : {A : Type 0} → Result A ReportCause → ReportStop → Type 0
 IsStopOf read stop.NoMemory = Unit {0}
 IsStopOf read (stop.Rule cause) = read ≡ Err cause
 
@@ -43,28 +43,28 @@ StopsAs says faults.ReadFault = ⊥
 StopsAs says (faults.Rule line cause) = (rest : List ℕ) → says rest ≡ Err (faults.Rule line cause)
 
 -- 1 where the closing line came, else 0: the number of such lines
-abbrev pub ended : Option ℕ → ℕ
-ended None = 0
-ended (Some written) = 1
+abbrev pub closing_count : Option ℕ → ℕ
+closing_count None = 0
+closing_count (Some written) = 1
 
 -- Each damage line names at least one sector, and a sector number has 32 bits.
-pub record IsCounted (draft : Draft) : Type 0 where
+pub record IsCounted (draft : LossesDraft) : Type 0 where
   pub refused : draft.refused ≤ draft.next
   pub below : draft.next < 2 ^ 32
 
 -- Each line except the closing one names at least one sector. The next line isn't too long, and no byte of it ends it.
-pub record IsSound (reader : Reader) : Type 0 where
-  pub number : reader.number ≤ reader.draft.next + ended reader.draft.written + 1
+pub record IsReaderSound (reader : Reader) : Type 0 where
+  pub number : reader.number ≤ reader.draft.next + closing_count reader.draft.written + 1
   pub counted : IsCounted reader.draft
   pub within : line_length reader.line.items ≡ length reader.line.items
   pub short : length reader.line.items ≤ 128
 
 -- a reader has read at least this number of bytes more, where each line counts as 129
-abbrev pub HasMoved : ℕ → Reader → Reader → Type 0
-HasMoved bytes old new = 129 * old.number + length old.line.items + bytes ≤ 129 * new.number + length new.line.items
+abbrev pub HasReadOn : ℕ → Reader → Reader → Type 0
+HasReadOn bytes old new = 129 * old.number + length old.line.items + bytes ≤ 129 * new.number + length new.line.items
 
 -- The rest of a text is left to be written. What comes before it was written, and no write failed.
-pub record IsLeft (whole rest : List ℕ) (old now : Seen) : Type 0 where
+pub record IsUnwritten (whole rest : List ℕ) (old now : Seen) : Type 0 where
   pub front : List ℕ
   pub grows : Appends old.bytes now.bytes front
   pub splits : front ++ rest ≡ whole
@@ -76,4 +76,4 @@ pub record HasCome (layout : Layout) (zones : Zones) (old now : Seen) (reader : 
   pub taken : Consumes old.bytes now.bytes text
   pub on : HasGoneOn old now
   pub says : (rest : List ℕ) → losses_of layout zones (text ++ rest) ≡ goes_on reader rest
-  pub sound : IsSound reader
+  pub sound : IsReaderSound reader

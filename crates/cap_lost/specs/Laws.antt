@@ -4,23 +4,23 @@ use Rattle.cap_map.specs.Fields.{lines_of}
 use Rattle.dvd_layout.specs.Place.{total_sectors}
 use Rattle.dvd_layout.specs.declared.layout.Layout.{Layout}
 use Rattle.dvd_layout.specs.declared.layout.Zones.{Zones}
-use Rattle.cap_lost.specs.Map.{end_of}
+use Rattle.cap_lost.specs.Map.{last_end}
 use Rattle.cap_lost.specs.Report.{Losses, line_said, losses_of}
 use Rattle.cap_lost.specs.declared.draft.Said.TheVariants.{Refused}
 use Rattle.cap_lost.specs.declared.extent.Extent.{Extent}
 
 -- a sector is one of this extent
-abbrev pub IsOf : Extent → ℕ → Type 0
-IsOf extent sector = (extent.from ≤ sector) × (sector < extent.to)
+abbrev pub IsInExtent : Extent → ℕ → Type 0
+IsInExtent extent sector = (extent.from ≤ sector) × (sector < extent.to)
 
 -- a sector is one of these extents
 abbrev pub IsLost : List Extent → ℕ → Type 0
 IsLost [] sector = ⊥
-IsLost (extent ∷ extents) sector = IsOf extent sector ⊎ IsLost extents sector
+IsLost (extent ∷ extents) sector = IsInExtent extent sector ⊎ IsLost extents sector
 
 -- a line says that the block of this sector is refused
 abbrev pub RefusesBlockOf : Layout → Zones → ℕ → List ℕ → Type 0
-RefusesBlockOf layout zones sector line = (extent : Extent) × (line_said layout zones line ≡ Ok (Refused extent)) × IsOf extent sector
+RefusesBlockOf layout zones sector line = (extent : Extent) × (line_said layout zones line ≡ Ok (Refused extent)) × IsInExtent extent sector
 
 -- one of these lines says that
 abbrev pub OneRefusesBlockOf : Layout → Zones → ℕ → List (List ℕ) → Type 0
@@ -43,4 +43,4 @@ AreApart from (extent ∷ extents) = (from ≤ extent.from) × (extent.from < ex
 abbrev pub LossesAreInOrder : Type 0
 LossesAreInOrder =
     (layout : Layout) (zones : Zones) (text : List ℕ) (losses : Losses) → losses_of layout zones text ≡ Ok losses
-    → AreApart 0 losses.extents × (end_of 0 losses.extents ≤ losses.written) × (losses.written ≤ total_sectors layout)
+    → AreApart 0 losses.extents × (last_end 0 losses.extents ≤ losses.written) × (losses.written ≤ total_sectors layout)

@@ -20,9 +20,9 @@ extent_lines at [] = []
 extent_lines at (extent ∷ extents) = sectors_line at extent.from 43 ++ sectors_line extent.from extent.to 45 ++ extent_lines extent.to extents
 
 -- the sector after extents, if there are any
-abbrev pub end_of : ℕ → List Extent → ℕ
-end_of at [] = at
-end_of at (extent ∷ extents) = end_of extent.to extents
+abbrev pub last_end : ℕ → List Extent → ℕ
+last_end at [] = at
+last_end at (extent ∷ extents) = last_end extent.to extents
 
 -- the lines after extents that end before this sector
 abbrev pub last_lines : ℕ → ℕ → ℕ → List ℕ
@@ -30,7 +30,7 @@ last_lines at written total = sectors_line at written 43 ++ sectors_line written
 
 -- the lines from this sector on
 abbrev pub lines_from : ℕ → List Extent → ℕ → ℕ → List ℕ
-lines_from at extents written total = extent_lines at extents ++ last_lines (end_of at extents) written total
+lines_from at extents written total = extent_lines at extents ++ last_lines (last_end at extents) written total
 
 -- The map of an image of `total` sectors: those of these extents are bad, those from `written` on weren't tried, and
 -- all others are rescued.

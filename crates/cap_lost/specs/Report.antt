@@ -5,12 +5,12 @@ use Rattle.dvd_layout.specs.declared.layout.Layout.{Layout}
 use Rattle.dvd_layout.specs.declared.layout.Zones.{Zones}
 use Rattle.cap_lost.specs.Blocks.{block_said}
 use Rattle.cap_lost.specs.Closings.{closing_said}
-use Rattle.cap_lost.specs.Fronts.{after}
+use Rattle.cap_lost.specs.Fronts.{without_prefix}
 use Rattle.cap_lost.specs.declared.draft.Said.{Said}
 use Rattle.cap_lost.specs.declared.draft.Said.TheVariants.{Refused, GivenBack, Ended}
 use Rattle.cap_lost.specs.declared.extent.Extent.{Extent}
-use Rattle.cap_lost.specs.declared.fault.Cause.{Cause}
-use Rattle.cap_lost.specs.declared.fault.Cause.TheVariants as causes
+use Rattle.cap_lost.specs.declared.fault.ReportCause.{ReportCause}
+use Rattle.cap_lost.specs.declared.fault.ReportCause.TheVariants as causes
 use Rattle.cap_lost.specs.declared.fault.ReportFault.{ReportFault}
 use Rattle.cap_lost.specs.declared.fault.ReportFault.TheVariants.{NoMemory, ReadFault, Rule}
 
@@ -27,8 +27,8 @@ pub record Losses : Type 0 where
   pub extents : List Extent
   pub written : ℕ
 
-abbrev pub nothing : Sayings
-nothing = record { extents = []; next = 0; refused = 0; written = None }
+abbrev pub nothing_said : Sayings
+nothing_said = record { extents = []; next = 0; refused = 0; written = None }
 
 -- the last of these, if there is one
 abbrev pub last_of : List Extent → Option Extent
@@ -55,7 +55,7 @@ is_count refused None = true
 is_count refused (Some count) = count == refused
 
 -- One more line. Blocks are named in the order of the image, and the end comes after all that are named.
-abbrev pub with_said : Sayings → Said → Result Sayings Cause
+abbrev pub with_said : Sayings → Said → Result Sayings ReportCause
 with_said said (Refused extent) =
     if nat_lt extent.from said.next then Err causes.Order
     else Ok (record { extents = with_extent said.extents extent; next = extent.to; refused = said.refused + 1; written = said.written })
@@ -64,26 +64,26 @@ with_said said (Ended count written) =
     if is_count said.refused count then (if nat_lt written said.next then Err causes.Order else Ok (record said { written = Some written })) else Err causes.Count
 
 -- what one line says by itself
-abbrev pub word_said : Layout → Zones → List ℕ → Option (List ℕ) → Result Said Cause
+abbrev pub word_said : Layout → Zones → List ℕ → Option (List ℕ) → Result Said ReportCause
 word_said layout zones line None = closing_said layout zones line
 word_said layout zones line (Some rest) = block_said layout zones line rest
 
-abbrev pub line_said : Layout → Zones → List ℕ → Result Said Cause
-line_said layout zones line = word_said layout zones line (after (codes "block ") line)
+abbrev pub line_said : Layout → Zones → List ℕ → Result Said ReportCause
+line_said layout zones line = word_said layout zones line (without_prefix (codes "block ") line)
 
 -- a line more, if it says something
-abbrev pub with_result : Sayings → Result Said Cause → Result Sayings Cause
+abbrev pub with_result : Sayings → Result Said ReportCause → Result Sayings ReportCause
 with_result said (Ok more) = with_said said more
 with_result said (Err cause) = Err cause
 
 -- No line of a report has more than 128 bytes, and none comes after the closing line.
-abbrev pub line_read : Layout → Zones → Sayings → List ℕ → Result Sayings Cause
+abbrev pub line_read : Layout → Zones → Sayings → List ℕ → Result Sayings ReportCause
 line_read layout zones said line =
     if nat_lt 128 (length line) then Err causes.Line
     else (if is_some said.written then Err causes.AfterEnd else with_result said (line_said layout zones line))
 
 -- what comes after a line with this result and this number
-abbrev pub after_line : ℕ → Result Sayings Cause → (Sayings → Result Losses ReportFault) → Result Losses ReportFault
+abbrev pub after_line : ℕ → Result Sayings ReportCause → (Sayings → Result Losses ReportFault) → Result Losses ReportFault
 after_line number (Ok said) rest = rest said
 after_line number (Err cause) rest = Err (Rule number cause)
 
@@ -99,7 +99,7 @@ lines_read layout zones said number (line ∷ lines) =
 
 -- What a report says of the image of this layout. Its lines are counted from 1.
 abbrev pub losses_of : Layout → Zones → List ℕ → Result Losses ReportFault
-losses_of layout zones text = lines_read layout zones nothing 1 (lines_of text)
+losses_of layout zones text = lines_read layout zones nothing_said 1 (lines_of text)
 
 -- A fault is that of the report. Where there is no memory, or a read failed, nothing is claimed of the report.
 abbrev pub IsFaultOf : Result Losses ReportFault → ReportFault → Type 0

@@ -3,44 +3,49 @@
 ghost use Rattle.std.specs.Prelude.{◌≡◌, ◌<◌, codes, option_map, IfOk};
 ghost use Rattle.dvd_layout.specs.Place.{HasNumbers};
 ghost use Rattle.cap_lost.specs.Blocks.{after_address, after_front, block_said, entry_said, extent_of, front_of, is_numbered, is_refusal, is_round, is_saved, is_some_and, what_said};
-ghost use Rattle.cap_lost.specs.Fronts.{after};
+ghost use Rattle.cap_lost.specs.Fronts.{without_prefix};
 ghost use Rattle.cap_lost.specs.Inner.{NamesSectors};
 
 use crate::draft::Said;
 use crate::extent::Extent;
-use crate::fault::Cause;
-use crate::fronts::{after, after_number, after_word, is_text, number_first};
+use crate::fault::ReportCause;
+use crate::fronts::{after_eight_digits, after_number, is_text, number_first, without_prefix};
 use dvd_layout::{BlockPlan, Content, Layout, Zones};
 use dvd_report::{Line, put_block};
 
 /// What a line that begins with the word `block` says.
-pub fn block_said(layout: &Layout, zones: Zones, line: &[u8], rest: &[u8]) -> Result<Said, Cause>
+pub fn block_said(
+    layout: &Layout,
+    zones: Zones,
+    line: &[u8],
+    rest: &[u8],
+) -> Result<Said, ReportCause>
     ensures said { result ≡ block_said layout.now zones line.now rest.now }
     ensures some { IfOk result NamesSectors }
 {
     let Some((k, _)) = number_first(rest) else {
-        return Err(Cause::Line);
+        return Err(ReportCause::Line);
     };
     if k >= layout.blocks(zones) {
-        return Err(Cause::Block);
+        return Err(ReportCause::Block);
     }
     // The number alone is read. What comes after it has to be what `dvdecc` writes of that block.
     place_said(layout, k, &layout.plan(zones, k), line)
 }
 
 // What a line of block `k`, which has this entry, says.
-fn place_said(layout: &Layout, k: u64, plan: &BlockPlan, line: &[u8]) -> Result<Said, Cause>
+fn place_said(layout: &Layout, k: u64, plan: &BlockPlan, line: &[u8]) -> Result<Said, ReportCause>
     requires { HasNumbers plan.now }
-    ensures said { result ≡ after_front layout.now plan.now (after (front_of k plan.now) line.now) }
+    ensures said { result ≡ after_front layout.now plan.now (without_prefix (front_of k plan.now) line.now) }
     ensures some { IfOk result NamesSectors }
 {
     let front = front_of(k, plan);
-    let Some(what) = after(line, front.as_slice()) else {
-        return Err(Cause::Place);
+    let Some(what) = without_prefix(line, front.as_slice()) else {
+        return Err(ReportCause::Place);
     };
     let extent = extent_of(layout, plan.content);
     if extent.to <= extent.from {
-        return Err(Cause::NoImage);
+        return Err(ReportCause::NoImage);
     }
     what_said(extent, what)
 }
@@ -71,7 +76,7 @@ fn extent_of(layout: &Layout, content: Content) -> Extent
 }
 
 // `recover` writes the first kind alone, and `deep` both.
-fn what_said(extent: Extent, what: &[u8]) -> Result<Said, Cause>
+fn what_said(extent: Extent, what: &[u8]) -> Result<Said, ReportCause>
     requires { extent.from < extent.to }
     ensures said { result ≡ what_said extent what.now }
     ensures some { IfOk result NamesSectors }
@@ -81,7 +86,7 @@ fn what_said(extent: Extent, what: &[u8]) -> Result<Said, Cause>
     } else if is_round(what) {
         Ok(Said::GivenBack(extent))
     } else {
-        Err(Cause::Line)
+        Err(ReportCause::Line)
     }
 }
 
@@ -102,7 +107,7 @@ fn is_refusal(what: &[u8]) -> bool
 fn is_numbered(what: &[u8], name: &[u8], bound: u64) -> bool
     ensures { result ≡ is_numbered name.now bound what.now }
 {
-    match after(what, name).and_then(|rest| after_number(rest, bound)) {
+    match without_prefix(what, name).and_then(|rest| after_number(rest, bound)) {
         Some(rest) => is_saved(rest),
         None => false,
     }
@@ -122,10 +127,10 @@ fn is_address(what: &[u8]) -> bool
 fn after_address<'a>(what: &'a [u8]) -> Option<&'a [u8]>
     ensures { option_map (λ rest. rest.now) result ≡ after_address what.now }
 {
-    let rest = after(what, b"address ")?;
+    let rest = without_prefix(what, b"address ")?;
     let rest = after_number(rest, 16)?;
-    let rest = after(rest, b" found ")?;
-    after_word(rest)
+    let rest = without_prefix(rest, b" found ")?;
+    after_eight_digits(rest)
 }
 
 // Whether this is how many of sixteen frames were salvaged, and nothing more. Which frames these are isn't said, so all
@@ -133,7 +138,7 @@ fn after_address<'a>(what: &'a [u8]) -> Option<&'a [u8]>
 fn is_saved(rest: &[u8]) -> bool
     ensures { result ≡ is_saved rest.now }
 {
-    match after(rest, b" saved ").and_then(|rest| after_number(rest, 17)) {
+    match without_prefix(rest, b" saved ").and_then(|rest| after_number(rest, 17)) {
         Some(rest) => rest.is_empty(),
         None => false,
     }

@@ -6,18 +6,18 @@ ghost use Rattle.cap_lost.specs.Closings.{bad_marks_in, closing_said, counted_in
 ghost use Rattle.cap_lost.specs.Inner.{NamesSectors};
 
 use crate::draft::Said;
-use crate::fault::Cause;
-use crate::fronts::{after, is_text, number_first};
+use crate::fault::ReportCause;
+use crate::fronts::{is_text, number_first, without_prefix};
 use dvd_layout::{Content, Layout, Zones};
 
 /// What a line that names no block says, if it closes the report of an image. A run that went on to the last block
 /// wrote the whole image. One that stopped wrote the sectors before that block.
-pub fn closing_said(layout: &Layout, zones: Zones, line: &[u8]) -> Result<Said, Cause>
+pub fn closing_said(layout: &Layout, zones: Zones, line: &[u8]) -> Result<Said, ReportCause>
     ensures said { result ≡ closing_said layout.now zones line.now }
     ensures some { IfOk result NamesSectors }
 {
     if is_fault(line) {
-        return Err(Cause::Fault);
+        return Err(ReportCause::Fault);
     }
     if is_text(line, b"long") {
         return Ok(Said::Ended {
@@ -33,7 +33,7 @@ pub fn closing_said(layout: &Layout, zones: Zones, line: &[u8]) -> Result<Said, 
     }
     match stopped_in(line) {
         Some(k) => stopped_at(layout, zones, k),
-        None => Err(Cause::Line),
+        None => Err(ReportCause::Line),
     }
 }
 
@@ -51,7 +51,7 @@ fn counted_in(line: &[u8]) -> Option<u64>
     if is_text(line, b"done") {
         return Some(0);
     }
-    let (refused, rest) = number_first(after(line, b"damaged: ")?)?;
+    let (refused, rest) = number_first(without_prefix(line, b"damaged: ")?)?;
     if is_text(rest, b" blocks") {
         Some(refused)
     } else {
@@ -72,8 +72,8 @@ fn stopped_in(line: &[u8]) -> Option<u64>
 fn short_in(line: &[u8]) -> Option<u64>
     ensures { result ≡ short_in line.now }
 {
-    let (k, rest) = number_first(after(line, b"short: block ")?)?;
-    let (_, rest) = number_first(after(rest, b", ")?)?;
+    let (k, rest) = number_first(without_prefix(line, b"short: block ")?)?;
+    let (_, rest) = number_first(without_prefix(rest, b", ")?)?;
     if is_text(rest, b" bytes") {
         Some(k)
     } else {
@@ -84,18 +84,18 @@ fn short_in(line: &[u8]) -> Option<u64>
 fn bad_marks_in(line: &[u8]) -> Option<u64>
     ensures { result ≡ bad_marks_in line.now }
 {
-    let (k, rest) = number_first(after(line, b"bad marks: block ")?)?;
-    let (_, rest) = number_first(after(rest, b", byte ")?)?;
+    let (k, rest) = number_first(without_prefix(line, b"bad marks: block ")?)?;
+    let (_, rest) = number_first(without_prefix(rest, b", byte ")?)?;
     if rest.is_empty() { Some(k) } else { None }
 }
 
 // The image sectors of the blocks before this one were written.
-fn stopped_at(layout: &Layout, zones: Zones, k: u64) -> Result<Said, Cause>
+fn stopped_at(layout: &Layout, zones: Zones, k: u64) -> Result<Said, ReportCause>
     ensures said { result ≡ stopped_at layout.now zones k }
     ensures some { IfOk result NamesSectors }
 {
     if k >= layout.blocks(zones) {
-        return Err(Cause::Block);
+        return Err(ReportCause::Block);
     }
     Ok(Said::Ended {
         refused: None,

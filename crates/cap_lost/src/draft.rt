@@ -1,10 +1,10 @@
 //! What the lines of a report say together: extents of lost sectors, in order and joined where they touch.
 ghost use Rattle.std.specs.Prelude.{◌≡◌, ◌+◌, ◌≤◌, ◌<◌, None, Some, Ok, OnOk, IfErr};
-ghost use Rattle.cap_lost.specs.Inner.{IsCounted, IsStopOf, NamesSectors, ended, sayings_of};
-ghost use Rattle.cap_lost.specs.Report.{is_count, is_end, last_of, nothing, with_end, with_extent, with_said};
+ghost use Rattle.cap_lost.specs.Inner.{IsCounted, IsStopOf, NamesSectors, closing_count, sayings_of};
+ghost use Rattle.cap_lost.specs.Report.{is_count, is_end, last_of, nothing_said, with_end, with_extent, with_said};
 
 use crate::extent::Extent;
-use crate::fault::Cause;
+use crate::fault::ReportCause;
 use std::alloc::Global;
 
 /// What a line says.
@@ -21,9 +21,9 @@ pub enum Said {
 
 /// Why a line isn't accepted.
 #[derive(Clone, Copy, Debug, PartialEq, Eq)]
-pub enum Stop {
+pub enum ReportStop {
     /// It breaks a rule.
-    Rule(Cause),
+    Rule(ReportCause),
     /// There is no memory for its extent.
     NoMemory,
 }
@@ -41,19 +41,19 @@ pub struct Lost {
 /// How many blocks were refused, and, once that is said, how many sectors were written. Blocks are named in their
 /// order, so one sector number says which may still come.
 #[derive(Drop)]
-pub struct Draft {
+pub struct LossesDraft {
     pub extents: Vec<Extent>,
     pub next: u32,
     pub refused: u32,
     pub written: Option<u32>,
 }
 
-impl Draft {
+impl LossesDraft {
     /// Nothing was said.
-    pub fn new(alloc: Global) -> Draft
-        ensures { sayings_of result ≡ nothing }
+    pub fn new(alloc: Global) -> LossesDraft
+        ensures { sayings_of result ≡ nothing_said }
     {
-        Draft {
+        LossesDraft {
             extents: Vec::new(alloc),
             next: 0,
             refused: 0,
@@ -62,14 +62,14 @@ impl Draft {
     }
 
     /// Adds what one more line says. At `Err` nothing is promised of the draft.
-    pub fn add(&mut self, said: Said) -> Result<(), Stop>
+    pub fn add(&mut self, said: Said) -> Result<(), ReportStop>
         requires counted { IsCounted self.old }
         requires some { NamesSectors said }
         requires before_end { self.old.written ≡ None }
         ensures added { OnOk result (with_said (sayings_of self.old) said ≡ Ok (sayings_of self.new)) }
         ensures rule { IfErr result (IsStopOf (with_said (sayings_of self.old) said)) }
         ensures counted { OnOk result (IsCounted self.new) }
-        ensures goes_on { OnOk result (self.old.next + 1 ≤ self.new.next + ended self.new.written) }
+        ensures goes_on { OnOk result (self.old.next + 1 ≤ self.new.next + closing_count self.new.written) }
     {
         match said {
             Said::Refused(extent) => self.refuse(extent),
@@ -79,7 +79,7 @@ impl Draft {
     }
 
     // Adds the sectors of a refused block.
-    fn refuse(&mut self, extent: Extent) -> Result<(), Stop>
+    fn refuse(&mut self, extent: Extent) -> Result<(), ReportStop>
         requires counted { IsCounted self.old }
         requires some { extent.from < extent.to }
         ensures added { OnOk result (with_said (sayings_of self.old) (Said.Refused extent) ≡ Ok (sayings_of self.new)) }
@@ -94,16 +94,16 @@ impl Draft {
     }
 
     // Passes the sectors of a block that a line names.
-    fn pass(&mut self, extent: Extent) -> Result<(), Stop>
+    fn pass(&mut self, extent: Extent) -> Result<(), ReportStop>
         requires some { extent.from < extent.to }
         ensures added { OnOk result (with_said (sayings_of self.old) (Said.GivenBack extent) ≡ Ok (sayings_of self.new)) }
-        ensures rule { IfErr result (λ stop. (stop ≡ Stop.Rule Cause.Order) × (extent.from < self.old.next)) }
+        ensures rule { IfErr result (λ stop. (stop ≡ ReportStop.Rule ReportCause.Order) × (extent.from < self.old.next)) }
         ensures only { self.new ≡ record self.old { next = self.new.next } }
         ensures next { OnOk result (self.new.next ≡ extent.to) }
         ensures from { OnOk result (self.old.next ≤ extent.from) }
     {
         if extent.from < self.next {
-            return Err(Stop::Rule(Cause::Order));
+            return Err(ReportStop::Rule(ReportCause::Order));
         }
         self.next = extent.to;
         Ok(())
@@ -111,9 +111,9 @@ impl Draft {
 
     // Adds an extent, to the last one where that ends at its first sector. So the map has one line for sectors that are
     // lost together.
-    fn lose(&mut self, extent: Extent) -> Result<(), Stop>
+    fn lose(&mut self, extent: Extent) -> Result<(), ReportStop>
         ensures added { OnOk result (self.new.extents.items ≡ with_extent self.old.extents.items extent) }
-        ensures memory { IfErr result (λ stop. stop ≡ Stop.NoMemory) }
+        ensures memory { IfErr result (λ stop. stop ≡ ReportStop.NoMemory) }
         ensures next { self.new.next ≡ self.old.next }
         ensures refused { self.new.refused ≡ self.old.refused }
         ensures written { self.new.written ≡ self.old.written }
@@ -124,7 +124,7 @@ impl Draft {
         }
         match self.extents.push(extent) {
             Ok(()) => Ok(()),
-            Err(_) => Err(Stop::NoMemory),
+            Err(_) => Err(ReportStop::NoMemory),
         }
     }
 
@@ -152,16 +152,16 @@ impl Draft {
 
     // Ends with this number of written sectors. The count of damage lines is compared, so that a report with a line
     // missing isn't believed.
-    fn end(&mut self, refused: Option<u64>, written: u32) -> Result<(), Stop>
+    fn end(&mut self, refused: Option<u64>, written: u32) -> Result<(), ReportStop>
         ensures added { OnOk result (with_said (sayings_of self.old) (Said.Ended refused written) ≡ Ok (sayings_of self.new)) }
         ensures rule { IfErr result (IsStopOf (with_said (sayings_of self.old) (Said.Ended refused written))) }
         ensures only { OnOk result (self.new ≡ record self.old { written = Some written }) }
     {
         if !self.counts(refused) {
-            return Err(Stop::Rule(Cause::Count));
+            return Err(ReportStop::Rule(ReportCause::Count));
         }
         if written < self.next {
-            return Err(Stop::Rule(Cause::Order));
+            return Err(ReportStop::Rule(ReportCause::Order));
         }
         self.written = Some(written);
         Ok(())

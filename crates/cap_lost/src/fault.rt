@@ -4,7 +4,7 @@ use thiserror::Error;
 
 /// The rule that a line breaks.
 #[derive(Clone, Copy, Debug, PartialEq, Eq, Error)]
-pub enum Cause {
+pub enum ReportCause {
     /// It is no line that `recover` or `deep` writes of a block, nor one that closes the report of an image.
     #[error("not a report line")]
     Line,
@@ -46,5 +46,5 @@ pub enum ReportFault {
     /// This line, counted from 1, is the first that breaks a rule. It is the one after the last where the closing line
     /// is missing.
     #[error("line {line}: {cause}")]
-    Rule { line: u64, cause: Cause },
+    Rule { line: u64, cause: ReportCause },
 }

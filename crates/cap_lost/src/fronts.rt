@@ -1,7 +1,7 @@
 //! Texts and numbers at the beginning of a text: the parts of which lines are read.
 ghost use Rattle.std.specs.Prelude.{◌≡◌, ◌≤◌, length, bytes_eq, option_map};
 ghost use Rattle.std.specs.List.{list_all};
-ghost use Rattle.cap_lost.specs.Fronts.{after, after_number, after_word, digits_of, is_capital_digit, number_first};
+ghost use Rattle.cap_lost.specs.Fronts.{without_prefix, after_number, after_eight_digits, digits_of, is_capital_digit, number_first};
 
 use cap_map::digits_in;
 use itoa::Buffer;
@@ -14,8 +14,8 @@ pub fn is_text(text: &[u8], other: &[u8]) -> bool
 }
 
 /// What comes after this prefix of a text, if the text has it.
-pub fn after<'a>(text: &'a [u8], front: &[u8]) -> Option<&'a [u8]>
-    ensures { option_map (λ rest. rest.now) result ≡ after front.now text.now }
+pub fn without_prefix<'a>(text: &'a [u8], front: &[u8]) -> Option<&'a [u8]>
+    ensures { option_map (λ rest. rest.now) result ≡ without_prefix front.now text.now }
 {
     text.strip_prefix(front)
 }
@@ -57,8 +57,8 @@ pub fn after_number<'a>(text: &'a [u8], bound: u64) -> Option<&'a [u8]>
 }
 
 /// What comes after eight hexadecimal digits with capitals, if a text begins with them. An ID is so written.
-pub fn after_word<'a>(text: &'a [u8]) -> Option<&'a [u8]>
-    ensures { option_map (λ rest. rest.now) result ≡ after_word text.now }
+pub fn after_eight_digits<'a>(text: &'a [u8]) -> Option<&'a [u8]>
+    ensures { option_map (λ rest. rest.now) result ≡ after_eight_digits text.now }
 {
     if text.len() < 8 {
         return None;

@@ -18,7 +18,7 @@ mod report; // a whole report
 
 pub use draft::Lost;
 pub use extent::Extent;
-pub use fault::{Cause, ReportFault};
+pub use fault::{ReportCause, ReportFault};
 pub use map::write_map;
 pub use report::read_report;
 

@@ -7,7 +7,7 @@ ghost use Rattle.std.specs.Io.KnownBytes.{Appends};
 ghost use Rattle.dvd_ports.specs.Causes.{HasCause};
 ghost use Rattle.dvd_ports.specs.Whole.{AppendsPrefix, IsWritten};
 ghost use Rattle.dvd_report.specs.Lines.{hexadecimal};
-ghost use Rattle.cap_lost.specs.Map.{end_of, extent_lines, last_lines, map_text, number_text, sectors_line};
+ghost use Rattle.cap_lost.specs.Map.{last_end, extent_lines, last_lines, map_text, number_text, sectors_line};
 
 use crate::draft::Lost;
 use crate::extent::Extent;
@@ -47,7 +47,7 @@ fn write_extents<K: Sink>(at: u32, extents: &[Extent], out: &mut K) -> Result<u3
     ensures written { OnOk result (Appends (K.seen out.old).bytes (K.seen out.new).bytes (extent_lines at extents.now)) }
     ensures begun { OnErr result (AppendsPrefix (K.seen out.old).bytes (K.seen out.new).bytes (extent_lines at extents.now)) }
     ensures cause { HasCause (K.seen out.old) (K.seen out.new) result }
-    ensures end { IfOk result (λ end. end ≡ end_of at extents.now) }
+    ensures end { IfOk result (λ end. end ≡ last_end at extents.now) }
 {
     let mut lines = Lines::new();
     let end = put_extents(&mut lines, at, extents);
@@ -70,7 +70,7 @@ fn put_extents(lines: &mut Lines, at: u32, extents: &[Extent]) -> u32
     requires empty { lines.old.items ≡ [] }
     requires few { length extents.now ≤ 64 }
     ensures lines { lines.new.items ≡ extent_lines at extents.now }
-    ensures end { result ≡ end_of at extents.now }
+    ensures end { result ≡ last_end at extents.now }
 {
     let mut end = at;
     for extent in extents {

@@ -1,16 +1,16 @@
 //! Lines out of bytes that come in pieces. One line is kept at a time, so that a report of any length needs no memory
 //! but for its extents.
 ghost use Rattle.std.specs.Prelude.{◌≡◌, ◌+◌, ◌<◌, ◌≤◌, ◌++◌, [], ◌∷◌, ℕ, List, Ok, codes, length, IfOk, OnOk, IfErr};
-ghost use Rattle.cap_lost.specs.Inner.{HasMoved, IsCounted, IsSound, IsStopOf, NamesSectors, StopsAs, ended, goes_on, sayings_of};
+ghost use Rattle.cap_lost.specs.Inner.{HasReadOn, IsCounted, IsReaderSound, IsStopOf, NamesSectors, StopsAs, closing_count, goes_on, sayings_of};
 ghost use Rattle.cap_lost.specs.Report.{IsFaultOf, line_read, losses_of, word_said};
 ghost use Rattle.cap_lost.specs.Lost.{losses_in};
-ghost use Rattle.cap_lost.specs.Fronts.{after};
+ghost use Rattle.cap_lost.specs.Fronts.{without_prefix};
 
 use crate::block::block_said;
 use crate::closing::closing_said;
-use crate::draft::{Draft, Lost, Said, Stop};
-use crate::fault::{Cause, ReportFault};
-use crate::fronts::after;
+use crate::draft::{LossesDraft, Lost, ReportStop, Said};
+use crate::fault::{ReportCause, ReportFault};
+use crate::fronts::without_prefix;
 use arrayvec::ArrayVec;
 use dvd_layout::{Layout, Zones};
 use std::alloc::Global;
@@ -24,7 +24,7 @@ const LONGEST: usize = 128;
 pub struct Reader {
     layout: Layout,
     zones: Zones,
-    draft: Draft,
+    draft: LossesDraft,
     number: u64,
     line: ArrayVec<u8, LONGEST>,
 }
@@ -33,12 +33,12 @@ impl Reader {
     /// A report of which nothing came.
     pub fn new(alloc: Global, layout: Layout, zones: Zones) -> Reader
         ensures begins { (text : List ℕ) → goes_on result text ≡ losses_of layout zones text }
-        ensures sound { IsSound result }
+        ensures sound { IsReaderSound result }
     {
         Reader {
             layout,
             zones,
-            draft: Draft::new(alloc),
+            draft: LossesDraft::new(alloc),
             number: 1,
             line: ArrayVec::new(),
         }
@@ -46,11 +46,11 @@ impl Reader {
 
     /// Reads one more piece of the report.
     pub fn take(&mut self, piece: &[u8]) -> Result<(), ReportFault>
-        requires sound { IsSound self.old }
+        requires sound { IsReaderSound self.old }
         ensures read { OnOk result ((rest : List ℕ) → goes_on self.old (piece.now ++ rest) ≡ goes_on self.new rest) }
         ensures rule { IfErr result (StopsAs (λ rest. goes_on self.old (piece.now ++ rest))) }
-        ensures sound { OnOk result (IsSound self.new) }
-        ensures moved { OnOk result (HasMoved (length piece.now) self.old self.new) }
+        ensures sound { OnOk result (IsReaderSound self.new) }
+        ensures moved { OnOk result (HasReadOn (length piece.now) self.old self.new) }
     {
         for byte in piece {
             self.take_byte(*byte)?;
@@ -60,17 +60,17 @@ impl Reader {
 
     // Byte by byte, since a piece may begin and end within a line.
     fn take_byte(&mut self, byte: u8) -> Result<(), ReportFault>
-        requires sound { IsSound self.old }
+        requires sound { IsReaderSound self.old }
         ensures read { OnOk result ((rest : List ℕ) → goes_on self.old (byte ∷ rest) ≡ goes_on self.new rest) }
         ensures rule { IfErr result (StopsAs (λ rest. goes_on self.old (byte ∷ rest))) }
-        ensures sound { OnOk result (IsSound self.new) }
-        ensures moved { OnOk result (HasMoved 1 self.old self.new) }
+        ensures sound { OnOk result (IsReaderSound self.new) }
+        ensures moved { OnOk result (HasReadOn 1 self.old self.new) }
     {
         if byte == b'\n' {
             return self.end_line();
         }
         if self.line.is_full() {
-            return Err(self.breaks(Cause::Line));
+            return Err(self.breaks(ReportCause::Line));
         }
         self.line.push(byte);
         Ok(())
@@ -78,14 +78,14 @@ impl Reader {
 
     // Reads the line that came, as one that a line feed ends.
     fn end_line(&mut self) -> Result<(), ReportFault>
-        requires sound { IsSound self.old }
+        requires sound { IsReaderSound self.old }
         ensures read { OnOk result ((rest : List ℕ) → goes_on self.old (10 ∷ rest) ≡ goes_on self.new rest) }
         ensures rule { IfErr result (StopsAs (λ rest. goes_on self.old (10 ∷ rest))) }
         ensures read_last { OnOk result (0 < length self.old.line.items → goes_on self.old [] ≡ goes_on self.new []) }
         ensures rule_last { IfErr result (λ fault. 0 < length self.old.line.items → IsFaultOf (goes_on self.old []) fault) }
         ensures line { OnOk result (self.new.line.items ≡ []) }
-        ensures sound { OnOk result (IsSound self.new) }
-        ensures moved { OnOk result (HasMoved 1 self.old self.new) }
+        ensures sound { OnOk result (IsReaderSound self.new) }
+        ensures moved { OnOk result (HasReadOn 1 self.old self.new) }
     {
         match read_line(
             &self.layout,
@@ -98,13 +98,13 @@ impl Reader {
                 self.number += 1;
                 Ok(())
             }
-            Err(Stop::NoMemory) => Err(ReportFault::NoMemory),
-            Err(Stop::Rule(cause)) => Err(self.breaks(cause)),
+            Err(ReportStop::NoMemory) => Err(ReportFault::NoMemory),
+            Err(ReportStop::Rule(cause)) => Err(self.breaks(cause)),
         }
     }
 
     // A fault of the line that came.
-    fn breaks(&self, cause: Cause) -> ReportFault
+    fn breaks(&self, cause: ReportCause) -> ReportFault
         ensures { result ≡ ReportFault.Rule self.now.number cause }
     {
         ReportFault::Rule {
@@ -116,7 +116,7 @@ impl Reader {
     /// What the report says, if it ends here. The last line may lack its line feed. Without a closing line how much was
     /// written isn't known.
     pub fn finish(mut self) -> Result<Lost, ReportFault>
-        requires sound { IsSound self }
+        requires sound { IsReaderSound self }
         ensures read { IfOk result (λ lost. goes_on self [] ≡ Ok (losses_in lost)) }
         ensures rule { IfErr result (IsFaultOf (goes_on self [])) }
     {
@@ -126,13 +126,13 @@ impl Reader {
                 extents: self.draft.extents,
                 written,
             }),
-            None => Err(self.breaks(Cause::NoEnd)),
+            None => Err(self.breaks(ReportCause::NoEnd)),
         }
     }
 
     // Reads the line that came, if any did, as the last.
     fn end_last(&mut self) -> Result<(), ReportFault>
-        requires sound { IsSound self.old }
+        requires sound { IsReaderSound self.old }
         ensures read { OnOk result (goes_on self.old [] ≡ goes_on self.new []) }
         ensures rule { IfErr result (IsFaultOf (goes_on self.old [])) }
         ensures line { OnOk result (self.new.line.items ≡ []) }
@@ -145,29 +145,34 @@ impl Reader {
 }
 
 // Nothing may come after the closing line, whatever it says.
-fn read_line(layout: &Layout, zones: Zones, draft: &mut Draft, line: &[u8]) -> Result<(), Stop>
+fn read_line(
+    layout: &Layout,
+    zones: Zones,
+    draft: &mut LossesDraft,
+    line: &[u8],
+) -> Result<(), ReportStop>
     requires short { length line.now ≤ 128 }
     requires counted { IsCounted draft.old }
     ensures read { OnOk result (line_read layout.now zones (sayings_of draft.old) line.now ≡ Ok (sayings_of draft.new)) }
     ensures rule { IfErr result (IsStopOf (line_read layout.now zones (sayings_of draft.old) line.now)) }
     ensures counted { OnOk result (IsCounted draft.new) }
-    ensures goes_on { OnOk result (draft.old.next + ended draft.old.written + 1 ≤ draft.new.next + ended draft.new.written) }
+    ensures goes_on { OnOk result (draft.old.next + closing_count draft.old.written + 1 ≤ draft.new.next + closing_count draft.new.written) }
 {
     if draft.written.is_some() {
-        return Err(Stop::Rule(Cause::AfterEnd));
+        return Err(ReportStop::Rule(ReportCause::AfterEnd));
     }
     match said_by(layout, zones, line) {
         Ok(said) => draft.add(said),
-        Err(cause) => Err(Stop::Rule(cause)),
+        Err(cause) => Err(ReportStop::Rule(cause)),
     }
 }
 
 // A line of a block begins with that word, and no closing line does.
-fn said_by(layout: &Layout, zones: Zones, line: &[u8]) -> Result<Said, Cause>
-    ensures said { result ≡ word_said layout.now zones line.now (after (codes "block ") line.now) }
+fn said_by(layout: &Layout, zones: Zones, line: &[u8]) -> Result<Said, ReportCause>
+    ensures said { result ≡ word_said layout.now zones line.now (without_prefix (codes "block ") line.now) }
     ensures some { IfOk result NamesSectors }
 {
-    match after(line, b"block ") {
+    match without_prefix(line, b"block ") {
         Some(rest) => block_said(layout, zones, line, rest),
         None => closing_said(layout, zones, line),
     }

@@ -2,7 +2,7 @@
 //! is.
 ghost use Rattle.std.specs.Prelude.{IfOk, IfErr};
 ghost use Rattle.cap_lost.specs.Lost.{losses_in};
-ghost use Rattle.cap_lost.specs.Reads.{IsRefused, Reads};
+ghost use Rattle.cap_lost.specs.Reads.{IsReportRefused, ReadsReport};
 
 use crate::draft::Lost;
 use crate::fault::ReportFault;
@@ -19,8 +19,8 @@ pub fn read_report<S: Source>(
     zones: Zones,
     src: &mut S,
 ) -> Result<Lost, ReportFault>
-    ensures read { IfOk result (λ lost. Reads layout zones (S.seen src.old) (S.seen src.new) (losses_in lost)) }
-    ensures refused { IfErr result (IsRefused layout zones (S.seen src.old) (S.seen src.new)) }
+    ensures read { IfOk result (λ lost. ReadsReport layout zones (S.seen src.old) (S.seen src.new) (losses_in lost)) }
+    ensures refused { IfErr result (IsReportRefused layout zones (S.seen src.old) (S.seen src.new)) }
 {
     let mut reader = Reader::new(alloc, layout, zones);
     // A piece may end within a line: the reader puts lines together.

@@ -1,5 +1,5 @@
 //! Reports of small disks, and the maps that they give.
-use crate::{Cause, ReportFault, read_report, write_map};
+use crate::{ReportCause, ReportFault, read_report, write_map};
 use dvd_layout::{Layout, Shape, Zones};
 use dvd_ports::{Failed, MemSink, MemSource, SliceSource, Source};
 use std::alloc::Global;
@@ -114,118 +114,126 @@ fn blocks_of_layer_1(rt: HostRuntime) -> Result<(), Fail> {
 }
 
 // A report, the line that breaks a rule, and the rule.
-type Bad = (&'static str, u64, Cause);
+type Bad = (&'static str, u64, ReportCause);
 
 static BAD: [Bad; 38] = [
-    ("", 1, Cause::NoEnd),
-    ("\n", 1, Cause::Line),
-    ("done\ndone\n", 2, Cause::AfterEnd),
-    ("done\n\n", 2, Cause::AfterEnd),
-    ("done \n", 1, Cause::Line),
-    ("done\r\n", 1, Cause::Line),
-    ("Done\n", 1, Cause::Line),
-    ("usage\n", 1, Cause::Line),
-    ("no memory\n", 1, Cause::Line),
-    ("short: header, 3 bytes\n", 1, Cause::Line),
-    ("read fault\n", 1, Cause::Fault),
-    ("write fault\n", 1, Cause::Fault),
-    ("damaged: 1 blocks\n", 1, Cause::Count),
-    ("damaged: 0 blocks\n", 0, Cause::NoEnd),
-    ("damaged: 1 sectors\n", 1, Cause::Line),
-    ("damaged: 01 blocks\n", 1, Cause::Line),
+    ("", 1, ReportCause::NoEnd),
+    ("\n", 1, ReportCause::Line),
+    ("done\ndone\n", 2, ReportCause::AfterEnd),
+    ("done\n\n", 2, ReportCause::AfterEnd),
+    ("done \n", 1, ReportCause::Line),
+    ("done\r\n", 1, ReportCause::Line),
+    ("Done\n", 1, ReportCause::Line),
+    ("usage\n", 1, ReportCause::Line),
+    ("no memory\n", 1, ReportCause::Line),
+    ("short: header, 3 bytes\n", 1, ReportCause::Line),
+    ("read fault\n", 1, ReportCause::Fault),
+    ("write fault\n", 1, ReportCause::Fault),
+    ("damaged: 1 blocks\n", 1, ReportCause::Count),
+    ("damaged: 0 blocks\n", 0, ReportCause::NoEnd),
+    ("damaged: 1 sectors\n", 1, ReportCause::Line),
+    ("damaged: 01 blocks\n", 1, ReportCause::Line),
     (
         "damaged: 9999999999999999999999999 blocks\n",
         1,
-        Cause::Line,
+        ReportCause::Line,
     ),
-    ("short: block 3, 1 bytes\n", 1, Cause::Block),
+    ("short: block 3, 1 bytes\n", 1, ReportCause::Block),
     (
         "short: block 99999999999999999999999, 1 bytes\n",
         1,
-        Cause::Line,
+        ReportCause::Line,
     ),
-    ("short: block 1, bytes\n", 1, Cause::Line),
+    ("short: block 1, bytes\n", 1, ReportCause::Line),
     (
         "block 0 sector 030000 layer 0: rows 17 saved 2\n",
         2,
-        Cause::NoEnd,
+        ReportCause::NoEnd,
     ),
     (
         "block 0 sector 030000 layer 0: rows 17 saved 2\ndone\n",
         2,
-        Cause::Count,
+        ReportCause::Count,
     ),
     (
         "block 0 sector 030000 layer 0: rows 17 saved 2\nshort: block 0, 0 bytes\n",
         2,
-        Cause::Order,
+        ReportCause::Order,
     ),
     (
         "block 0 sector 030000 layer 0: rows 17 saved 2\nblock 0 sector 030000 layer 0: rows 17 saved 2\n",
         2,
-        Cause::Order,
+        ReportCause::Order,
     ),
     (
         "block 1 sector 030010 layer 0: round 1\nblock 0 sector 030000 layer 0: rows 17 saved 2\n",
         2,
-        Cause::Order,
+        ReportCause::Order,
     ),
     (
         "block 0 sector 030000 layer 0: rows 17 saved 2",
         2,
-        Cause::NoEnd,
+        ReportCause::NoEnd,
     ),
     (
         "block 0 sector 030000 layer 0: rows 209 saved 2\n",
         1,
-        Cause::Line,
+        ReportCause::Line,
     ),
     (
         "block 0 sector 030000 layer 0: rows 017 saved 2\n",
         1,
-        Cause::Line,
+        ReportCause::Line,
     ),
     (
         "block 0 sector 030000 layer 0: rows 17 saved 17\n",
         1,
-        Cause::Line,
+        ReportCause::Line,
     ),
     (
         "block 0 sector 030000 layer 0: rows 17 saved 2 \n",
         1,
-        Cause::Line,
+        ReportCause::Line,
     ),
-    ("block 0 sector 030000 layer 0: round 5\n", 1, Cause::Line),
-    ("block 0 sector 030000 layer 0: round 0\n", 1, Cause::Line),
+    (
+        "block 0 sector 030000 layer 0: round 5\n",
+        1,
+        ReportCause::Line,
+    ),
+    (
+        "block 0 sector 030000 layer 0: round 0\n",
+        1,
+        ReportCause::Line,
+    ),
     (
         "block 0 sector 030000 layer 0: address 0 found 0003000f saved 1\n",
         1,
-        Cause::Line,
+        ReportCause::Line,
     ),
     (
         "block 0 sector 030000 layer 1: rows 17 saved 2\n",
         1,
-        Cause::Place,
+        ReportCause::Place,
     ),
     (
         "block 0 sector 030010 layer 0: rows 17 saved 2\n",
         1,
-        Cause::Place,
+        ReportCause::Place,
     ),
     (
         "block 3 sector 030030 layer 0: rows 17 saved 2\n",
         1,
-        Cause::Block,
+        ReportCause::Block,
     ),
     (
         "block 18446744073709551616 sector 030000 layer 0: rows 17 saved 2\n",
         1,
-        Cause::Line,
+        ReportCause::Line,
     ),
     (
         "block 00 sector 030000 layer 0: rows 17 saved 2\n",
         1,
-        Cause::Line,
+        ReportCause::Line,
     ),
 ];
 
@@ -258,7 +266,7 @@ fn lines_that_break_a_rule(rt: HostRuntime) -> Result<(), Fail> {
         &(
             "block 0 sector 02F000 layer 0: rows 17 saved 2\n",
             1,
-            Cause::NoImage,
+            ReportCause::NoImage,
         ),
     )
 }
@@ -274,7 +282,7 @@ fn lines_without_an_end_and_faults(rt: HostRuntime) -> Result<(), Fail> {
     let answer = read_report(alloc, layout, Zones::DataOnly, &mut endless);
     let too_long = ReportFault::Rule {
         line: 1,
-        cause: Cause::Line,
+        cause: ReportCause::Line,
     };
     if answer != Err(too_long) || endless.read(&mut [0; 9000]) != Ok(4904) {
         Err("endless")?;

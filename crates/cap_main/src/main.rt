@@ -3,8 +3,8 @@
 #![tactic(auto)]
 
 ghost use Rattle.std.specs.Prelude.{◌≡◌, ◌≤◌, length, vec_len, IfOk};
-ghost use Rattle.cap_words.specs.Interleave.{IsLawful};
-ghost use Rattle.cap_words.specs.Reading.{AreLawful};
+ghost use Rattle.cap_words.specs.Interleave.{IsValid};
+ghost use Rattle.cap_words.specs.Reading.{AreValid};
 
 use cap_top::{Status, refuse_words, run_draw, run_interleave, run_lost, run_mark};
 use cap_words::{
@@ -32,7 +32,7 @@ fn main(rt: HostRuntime) -> ExitCode {
 
 // Each command has streams of its own: `mark` a file and the input, `interleave` several files, the others the input.
 fn run<E: Sink>(rt: &HostRuntime, settings: &Settings<'_>, report: &mut E) -> Status
-    requires { AreLawful settings.now }
+    requires { AreValid settings.now }
 {
     match settings {
         Settings::Mark(settings) => mark(rt, settings, report),
@@ -54,7 +54,7 @@ fn interleave<E: Sink>(
     settings: &InterleaveSettings<'_>,
     report: &mut E,
 ) -> Status
-    requires { IsLawful settings.now }
+    requires { IsValid settings.now }
 {
     let Ok(mut captures) = open_all(rt, settings.files.as_slice()) else {
         return refuse_words(WordsFault::NoMemory, report);

@@ -17,10 +17,10 @@ abbrev pub digits_in : ℕ → List ℕ → Option ℕ
 digits_in radix text = if length text == 0 then None else with_digits radix 0 text
 
 -- it begins with 0x or 0X
-abbrev pub is_hexadecimal : List ℕ → Bool
-is_hexadecimal text = nat_lt 1 (length text) && (slice_index text 0 == 48 && (slice_index text 1 == 120 || slice_index text 1 == 88))
+abbrev pub begins_with_0x : List ℕ → Bool
+begins_with_0x text = nat_lt 1 (length text) && (slice_index text 0 == 48 && (slice_index text 1 == 120 || slice_index text 1 == 88))
 
 -- the number that a text writes, if it is one and below 2 ^ 63
-abbrev pub number_of : List ℕ → Option ℕ
-number_of text =
-    if is_hexadecimal text then digits_in 16 (drop 2 text) else digits_in (if slice_index_or text 0 0 == 48 then 8 else 10) text
+abbrev pub written_number : List ℕ → Option ℕ
+written_number text =
+    if begins_with_0x text then digits_in 16 (drop 2 text) else digits_in (if slice_index_or text 0 0 == 48 then 8 else 10) text

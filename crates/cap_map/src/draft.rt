@@ -2,66 +2,66 @@
 //! one before it ended.
 ghost use Rattle.std.specs.Prelude.{◌≡◌, ◌++◌, [], ◌∷◌, Ok, OnOk, IfOk, IfErr};
 ghost use Rattle.cap_map.specs.Inner.{IsStopOf, read_of};
-ghost use Rattle.cap_map.specs.Lines.{fields_of};
-ghost use Rattle.cap_map.specs.Map.{before_first, end_after, line_read, with_block};
+ghost use Rattle.cap_map.specs.Lines.{line_fields};
+ghost use Rattle.cap_map.specs.Map.{with_first_span, end_after, line_read, with_block};
 
-use crate::fault::Cause;
-use crate::fields::fields_of;
-use crate::line::{Block, block_of, is_among, is_state};
+use crate::fault::MapCause;
+use crate::fields::line_fields;
+use crate::line::{MapBlock, is_among, is_state, map_block};
 use crate::span::Span;
 
 /// Why a line isn't accepted.
 #[derive(Clone, Copy, Debug, PartialEq, Eq)]
-pub enum Stop {
+pub enum MapStop {
     /// It breaks a rule.
-    Rule(Cause),
+    Rule(MapCause),
     /// There is no memory for its span.
     NoMemory,
 }
 
 /// Whether the line of the state has come, and the spans of the blocks that came.
 #[derive(Drop)]
-pub struct Draft {
+pub struct SpansDraft {
     pub opened: bool,
     pub spans: Vec<Span>,
 }
 
-impl Draft {
+impl SpansDraft {
     /// Reads one more line of a map in which these statuses are trusted.
-    pub fn take(&mut self, line: &[u8], good: &[u8]) -> Result<(), Stop>
-        ensures read { OnOk result (line_read good.now (read_of self.old) (fields_of line.now) ≡ Ok (read_of self.new)) }
-        ensures rule { IfErr result (IsStopOf (line_read good.now (read_of self.old) (fields_of line.now))) }
+    pub fn take(&mut self, line: &[u8], good: &[u8]) -> Result<(), MapStop>
+        ensures read { OnOk result (line_read good.now (read_of self.old) (line_fields line.now) ≡ Ok (read_of self.new)) }
+        ensures rule { IfErr result (IsStopOf (line_read good.now (read_of self.old) (line_fields line.now))) }
     {
-        let fields = fields_of(line);
+        let fields = line_fields(line);
         // A comment alone, or an empty line.
         if fields.first.is_empty() {
             return Ok(());
         }
         if self.opened {
-            return match block_of(&fields) {
+            return match map_block(&fields) {
                 Ok(block) => self.add(&block, good),
-                Err(cause) => Err(Stop::Rule(cause)),
+                Err(cause) => Err(MapStop::Rule(cause)),
             };
         }
         if !is_state(&fields) {
-            return Err(Stop::Rule(Cause::State));
+            return Err(MapStop::Rule(MapCause::State));
         }
         self.opened = true;
         Ok(())
     }
 
     // Adds the span of a block; before that of the first block, one for the bytes of which the map says nothing.
-    fn add(&mut self, block: &Block, good: &[u8]) -> Result<(), Stop>
+    fn add(&mut self, block: &MapBlock, good: &[u8]) -> Result<(), MapStop>
         ensures read { OnOk result (with_block good.now self.old.spans.items block.now ≡ Ok self.new.spans.items) }
         ensures same { OnOk result (self.new.opened ≡ self.old.opened) }
         ensures rule { IfErr result (IsStopOf (with_block good.now self.old.spans.items block.now)) }
     {
         let end = self.end_after(block.position);
         if block.position < end {
-            return Err(Stop::Rule(Cause::Overlap));
+            return Err(MapStop::Rule(MapCause::Overlap));
         }
         if end < block.position {
-            return Err(Stop::Rule(Cause::Gap));
+            return Err(MapStop::Rule(MapCause::Gap));
         }
         // The map says nothing of the bytes before its first block, so they aren't rescued.
         if self.spans.is_empty() && block.position > 0 {
@@ -71,14 +71,14 @@ impl Draft {
     }
 
     // Adds a span. One goes on from the span before it, so only its end is kept.
-    fn push(&mut self, end: u64, rescued: bool) -> Result<(), Stop>
+    fn push(&mut self, end: u64, rescued: bool) -> Result<(), MapStop>
         ensures read { OnOk result (self.new.spans.items ≡ self.old.spans.items ++ record { end = end; rescued = rescued } ∷ []) }
         ensures same { OnOk result (self.new.opened ≡ self.old.opened) }
-        ensures memory { IfErr result (λ stop. stop ≡ Stop.NoMemory) }
+        ensures memory { IfErr result (λ stop. stop ≡ MapStop.NoMemory) }
     {
         match self.spans.push(Span { end, rescued }) {
             Ok(()) => Ok(()),
-            Err(_) => Err(Stop::NoMemory),
+            Err(_) => Err(MapStop::NoMemory),
         }
     }
 

@@ -4,7 +4,7 @@ use thiserror::Error;
 
 /// The rule that a line breaks.
 #[derive(Clone, Copy, Debug, PartialEq, Eq, Error)]
-pub enum Cause {
+pub enum MapCause {
     /// The first line that is no comment isn't that of the state: a position, a status and perhaps a pass.
     #[error("no state")]
     State,
@@ -40,5 +40,5 @@ pub enum MapFault {
     /// This line, counted from 1, is the first that breaks a rule. It is the one after the last where the state is
     /// missing.
     #[error("line {line}: {cause}")]
-    Rule { line: u64, cause: Cause },
+    Rule { line: u64, cause: MapCause },
 }

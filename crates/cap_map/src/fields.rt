@@ -1,8 +1,8 @@
 //! Lines, and the fields of a line between blanks. They are slices of the text, so that no memory is taken.
 ghost use Rattle.std.specs.Prelude.{◌≡◌, ◌≤◌, ◌==◌, ◌+◌, not, length};
 ghost use Rattle.cap_map.specs.Fields.{after_field, blanks_of, field_length, first_field, is_blank, line_length, run_of, without_comment};
-ghost use Rattle.cap_map.specs.Inner.{bytes_of};
-ghost use Rattle.cap_map.specs.Lines.{fields_of};
+ghost use Rattle.cap_map.specs.Inner.{field_bytes};
+ghost use Rattle.cap_map.specs.Lines.{line_fields};
 
 /// The first four fields of a line. Those that it doesn't have are empty. No line has more than three that count: the
 /// fourth shows one too many.
@@ -15,8 +15,8 @@ pub struct FieldsOf<'a> {
 }
 
 /// The fields of a line, without its comment.
-pub fn fields_of<'a>(line: &'a [u8]) -> FieldsOf<'a>
-    ensures { bytes_of result ≡ fields_of line.now }
+pub fn line_fields<'a>(line: &'a [u8]) -> FieldsOf<'a>
+    ensures { field_bytes result ≡ line_fields line.now }
 {
     let (first, rest) = next_field(&line[..comment_start(line)]);
     let (second, rest) = next_field(rest);

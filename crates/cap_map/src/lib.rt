@@ -13,7 +13,7 @@ mod map; // a whole map
 mod number; // numbers in three bases
 mod span; // bytes of a capture that have one status
 
-pub use fault::{Cause, MapFault};
+pub use fault::{MapCause, MapFault};
 pub use map::read_map;
 pub use number::digits_in;
 pub use span::Span;

@@ -1,16 +1,16 @@
 //! What one line of a map says: the state of the run of ddrescue, or a block. Whether a block fits the one before it is
 //! asked in `draft`.
 ghost use Rattle.std.specs.Prelude.{◌≡◌, ◌<◌, ◌^◌, IfOk};
-ghost use Rattle.cap_map.specs.Inner.{bytes_of};
-ghost use Rattle.cap_map.specs.Lines.{block_of, is_among, is_number, is_one_of, is_state, sized_block};
+ghost use Rattle.cap_map.specs.Inner.{field_bytes};
+ghost use Rattle.cap_map.specs.Lines.{map_block, is_among, is_number, is_one_of, is_state, sized_block};
 
-use crate::fault::Cause;
+use crate::fault::MapCause;
 use crate::fields::FieldsOf;
-use crate::number::number_of;
+use crate::number::written_number;
 
 /// A block of a map: the bytes from a position to an end, and their status.
 #[derive(Clone, Copy, Debug, PartialEq, Eq, Drop)]
-pub struct Block {
+pub struct MapBlock {
     pub position: u64,
     pub end: u64,
     pub status: u8,
@@ -19,7 +19,7 @@ pub struct Block {
 /// Whether these are the fields of the state. A position, a status and perhaps a pass, which a map may lack. A run has
 /// two statuses more than a block, `F` and `G`. Nothing of it is used: it only shows that the text is a map.
 pub fn is_state(fields: &FieldsOf<'_>) -> bool
-    ensures { result ≡ is_state (bytes_of fields.now) }
+    ensures { result ≡ is_state (field_bytes fields.now) }
 {
     let has_pass = fields.third.is_empty() || is_number(fields.third);
     is_number(fields.first)
@@ -31,41 +31,42 @@ pub fn is_state(fields: &FieldsOf<'_>) -> bool
 fn is_number(field: &[u8]) -> bool
     ensures { result ≡ is_number field.now }
 {
-    number_of(field).is_some()
+    written_number(field).is_some()
 }
 
-/// The block that these fields say, or the first rule that they break. They are tried in the order in which `Cause` has
+/// The block that these fields say, or the first rule that they break. They are tried in the order in which `MapCause` has
 /// them.
-pub fn block_of(fields: &FieldsOf<'_>) -> Result<Block, Cause>
-    ensures { result ≡ block_of (bytes_of fields.now) }
+pub fn map_block(fields: &FieldsOf<'_>) -> Result<MapBlock, MapCause>
+    ensures { result ≡ map_block (field_bytes fields.now) }
 {
     if fields.third.is_empty() || !fields.fourth.is_empty() {
-        return Err(Cause::Fields);
+        return Err(MapCause::Fields);
     }
-    let (Some(position), Some(size)) = (number_of(fields.first), number_of(fields.second)) else {
-        return Err(Cause::Number);
+    let (Some(position), Some(size)) = (written_number(fields.first), written_number(fields.second))
+    else {
+        return Err(MapCause::Number);
     };
     if !is_one_of(b"?*/-+", fields.third) {
-        return Err(Cause::Status);
+        return Err(MapCause::Status);
     }
     sized_block(position, size, fields.third[0])
 }
 
 // The block of these numbers, if it has a byte and ends where a file can.
-fn sized_block(position: u64, size: u64, status: u8) -> Result<Block, Cause>
+fn sized_block(position: u64, size: u64, status: u8) -> Result<MapBlock, MapCause>
     requires position { position < 2 ^ 63 }
     requires size { size < 2 ^ 63 }
     ensures { result ≡ sized_block position size status }
 {
     if size == 0 {
-        return Err(Cause::Empty);
+        return Err(MapCause::Empty);
     }
     // Both are below 2^63, so that the sum fits 64 bits.
     let end = position + size;
     if end >= 1 << 63 {
-        return Err(Cause::TooLong);
+        return Err(MapCause::TooLong);
     }
-    Ok(Block {
+    Ok(MapBlock {
         position,
         end,
         status,

@@ -3,8 +3,8 @@
 ghost use Rattle.std.specs.Prelude.{◌≡◌, ◌+◌, drop, Ok, IfErr, IfOk};
 ghost use Rattle.cap_map.specs.Map.{IsFaultOf, map_of};
 
-use crate::draft::{Draft, Stop};
-use crate::fault::{Cause, MapFault};
+use crate::draft::{MapStop, SpansDraft};
+use crate::fault::{MapCause, MapFault};
 use crate::fields::line_length;
 use crate::span::Span;
 use std::alloc::Global;
@@ -15,7 +15,7 @@ pub fn read_map(alloc: Global, text: &[u8], good: &[u8]) -> Result<Vec<Span>, Ma
     ensures read { IfOk result (λ spans. map_of good.now text.now ≡ Ok spans.items) }
     ensures rule { IfErr result (IsFaultOf (map_of good.now text.now)) }
 {
-    let mut draft = Draft {
+    let mut draft = SpansDraft {
         opened: false,
         spans: Vec::new(alloc),
     };
@@ -25,8 +25,8 @@ pub fn read_map(alloc: Global, text: &[u8], good: &[u8]) -> Result<Vec<Span>, Ma
         let end = line_length(rest);
         match draft.take(&rest[..end], good) {
             Ok(()) => {}
-            Err(Stop::NoMemory) => return Err(MapFault::NoMemory),
-            Err(Stop::Rule(cause)) => return Err(MapFault::Rule { line, cause }),
+            Err(MapStop::NoMemory) => return Err(MapFault::NoMemory),
+            Err(MapStop::Rule(cause)) => return Err(MapFault::Rule { line, cause }),
         }
         rest = after_line(rest, end);
         line += 1;
@@ -35,7 +35,7 @@ pub fn read_map(alloc: Global, text: &[u8], good: &[u8]) -> Result<Vec<Span>, Ma
     if !draft.opened {
         return Err(MapFault::Rule {
             line,
-            cause: Cause::State,
+            cause: MapCause::State,
         });
     }
     Ok(draft.spans)

@@ -1,21 +1,21 @@
 //! Numbers of a map: hexadecimal after 0x, octal after 0, else decimal.
 ghost use Rattle.std.specs.Prelude.{◌≡◌, ◌<◌, ◌≤◌, ◌^◌, IfSome};
-ghost use Rattle.cap_map.specs.Numbers.{digits_in, is_hexadecimal, number_of, with_digit};
+ghost use Rattle.cap_map.specs.Numbers.{digits_in, begins_with_0x, written_number, with_digit};
 
 /// The number that a text is. There is none from 2^63 on: no file is longer than 2^63 - 1 bytes.
-pub fn number_of(text: &[u8]) -> Option<u64>
-    ensures value { result ≡ number_of text.now }
+pub fn written_number(text: &[u8]) -> Option<u64>
+    ensures value { result ≡ written_number text.now }
     ensures below { IfSome result (λ n. n < 2 ^ 63) }
 {
-    if is_hexadecimal(text) {
+    if begins_with_0x(text) {
         return digits_in(&text[2..], 16);
     }
     let radix = if text.first() == Some(&b'0') { 8 } else { 10 };
     digits_in(text, radix)
 }
 
-fn is_hexadecimal(text: &[u8]) -> bool
-    ensures { result ≡ is_hexadecimal text.now }
+fn begins_with_0x(text: &[u8]) -> bool
+    ensures { result ≡ begins_with_0x text.now }
 {
     text.len() > 1 && text[0] == b'0' && (text[1] == b'x' || text[1] == b'X')
 }

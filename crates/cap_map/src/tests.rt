@@ -1,5 +1,5 @@
 //! Maps as GNU ddrescue writes them, and maps that break a rule.
-use crate::{Cause, MapFault, Span, read_map};
+use crate::{MapCause, MapFault, Span, read_map};
 use std::alloc::Global;
 use std::test::Fail;
 
@@ -60,37 +60,37 @@ fn spans_of_maps(rt: HostRuntime) -> Result<(), Fail> {
     Ok(())
 }
 
-static BROKEN: [(&str, u64, Cause); 26] = [
-    ("", 1, Cause::State),
-    ("# only a comment\n", 2, Cause::State),
-    ("+ 0x0\n", 1, Cause::State),
-    ("0x0 + 1 2\n", 1, Cause::State),
-    ("0x0 x\n", 1, Cause::State),
-    ("0x0 + x\n", 1, Cause::State),
-    ("0x0 0x200 +\n", 1, Cause::State),
-    ("0 +\n0 1\n", 2, Cause::Fields),
-    ("0 +\n0 1 + 1\n", 2, Cause::Fields),
-    ("0 +\nx 1 +\n", 2, Cause::Number),
-    ("0 +\n0 0x +\n", 2, Cause::Number),
-    ("0 +\n0 08 +\n", 2, Cause::Number),
-    ("0 +\n0 -1 +\n", 2, Cause::Number),
-    ("0 +\n0 +1 +\n", 2, Cause::Number),
-    ("0 +\n0 9223372036854775808 +\n", 2, Cause::Number),
+static BROKEN: [(&str, u64, MapCause); 26] = [
+    ("", 1, MapCause::State),
+    ("# only a comment\n", 2, MapCause::State),
+    ("+ 0x0\n", 1, MapCause::State),
+    ("0x0 + 1 2\n", 1, MapCause::State),
+    ("0x0 x\n", 1, MapCause::State),
+    ("0x0 + x\n", 1, MapCause::State),
+    ("0x0 0x200 +\n", 1, MapCause::State),
+    ("0 +\n0 1\n", 2, MapCause::Fields),
+    ("0 +\n0 1 + 1\n", 2, MapCause::Fields),
+    ("0 +\nx 1 +\n", 2, MapCause::Number),
+    ("0 +\n0 0x +\n", 2, MapCause::Number),
+    ("0 +\n0 08 +\n", 2, MapCause::Number),
+    ("0 +\n0 -1 +\n", 2, MapCause::Number),
+    ("0 +\n0 +1 +\n", 2, MapCause::Number),
+    ("0 +\n0 9223372036854775808 +\n", 2, MapCause::Number),
     (
         "0 +\n0 99999999999999999999999999999999999999999 +\n",
         2,
-        Cause::Number,
+        MapCause::Number,
     ),
-    ("0 +\n0x10000000000000000 1 +\n", 2, Cause::Number),
-    ("0 +\n0 1 x\n", 2, Cause::Status),
-    ("0 +\n0 1 ++\n", 2, Cause::Status),
-    ("0 +\n0 1 F\n", 2, Cause::Status),
-    ("0 +\n0 0 +\n", 2, Cause::Empty),
-    ("0 +\n0x7FFFFFFFFFFFFFFF 1 +\n", 2, Cause::TooLong),
-    ("0 +\n0 2 +\n3 1 +\n", 3, Cause::Gap),
-    ("0 +\n0 2 +\n1 1 +\n", 3, Cause::Overlap),
-    ("0 +\n0 2 +\n0 2 +\n", 3, Cause::Overlap),
-    ("0 +\n#\n0 2 +\n\n4 1 +\n", 5, Cause::Gap),
+    ("0 +\n0x10000000000000000 1 +\n", 2, MapCause::Number),
+    ("0 +\n0 1 x\n", 2, MapCause::Status),
+    ("0 +\n0 1 ++\n", 2, MapCause::Status),
+    ("0 +\n0 1 F\n", 2, MapCause::Status),
+    ("0 +\n0 0 +\n", 2, MapCause::Empty),
+    ("0 +\n0x7FFFFFFFFFFFFFFF 1 +\n", 2, MapCause::TooLong),
+    ("0 +\n0 2 +\n3 1 +\n", 3, MapCause::Gap),
+    ("0 +\n0 2 +\n1 1 +\n", 3, MapCause::Overlap),
+    ("0 +\n0 2 +\n0 2 +\n", 3, MapCause::Overlap),
+    ("0 +\n#\n0 2 +\n\n4 1 +\n", 5, MapCause::Gap),
 ];
 
 #[test]

@@ -5,11 +5,11 @@ use Rattle.dvd_loop.specs.Machine.Step.{Write}
 use Rattle.dvd_loop.specs.declared.ends.UnitKind.{UnitKind}
 use Rattle.dvd_loop.specs.declared.ends.UnitKind.TheVariants.{Good}
 use Rattle.cap_map.specs.declared.span.Span.{Span}
-use Rattle.cap_mark.specs.Marks.{marks_of_row}
+use Rattle.cap_mark.specs.Marks.{row_mark_bytes}
 
 -- row n of bytes the first of which has this number, and its marks
 abbrev pub marked_row : List Span → ℕ → List ℕ → ℕ → List ℕ
-marked_row spans start bytes n = slice_range bytes (182 * n) (182 * n + 182) ++ marks_of_row spans (start + 182 * n)
+marked_row spans start bytes n = slice_range bytes (182 * n) (182 * n + 182) ++ row_mark_bytes spans (start + 182 * n)
 
 -- the first n rows, each with its marks
 unfoldable pub marked_rows : List Span → ℕ → List ℕ → ℕ → List ℕ

@@ -15,18 +15,18 @@ bit_of true = 1
 bit_of false = 0
 
 -- a number of marks, from `place` on, as a number whose most significant bit is the first of them
-unfoldable pub bits_of : (ℕ → Bool) → ℕ → ℕ → ℕ
-bits_of marks place zero = 0
-bits_of marks place (suc n) = 2 * bits_of marks place n + bit_of (marks (place + n))
+unfoldable pub bits_of_marks : (ℕ → Bool) → ℕ → ℕ → ℕ
+bits_of_marks marks place zero = 0
+bits_of_marks marks place (suc n) = 2 * bits_of_marks marks place n + bit_of (marks (place + n))
 
 -- the first n mark bytes
 unfoldable pub mark_bytes : (ℕ → Bool) → ℕ → List ℕ
 mark_bytes marks zero = []
-mark_bytes marks (suc n) = mark_bytes marks n ++ bits_of marks (8 * n) 8 ∷ []
+mark_bytes marks (suc n) = mark_bytes marks n ++ bits_of_marks marks (8 * n) 8 ∷ []
 
 -- the mark bytes of the row whose first byte has this number
-unfoldable pub marks_of_row : List Span → ℕ → List ℕ
-marks_of_row spans start = mark_bytes (is_marked spans start) 23
+unfoldable pub row_mark_bytes : List Span → ℕ → List ℕ
+row_mark_bytes spans start = mark_bytes (is_marked spans start) 23
 
 -- the mark of place j in mark bytes, as the marked form has it
 abbrev pub mark_at : List ℕ → ℕ → Bool

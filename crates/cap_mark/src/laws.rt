@@ -2,11 +2,11 @@
 ghost use Rattle.std.specs.Prelude.{◌≡◌, ◌<◌, ℕ, List};
 ghost use Rattle.cap_map.specs.declared.span.Span.{Span as MapSpan};
 ghost use Rattle.cap_mark.specs.Capture.{MarksWhole};
-ghost use Rattle.cap_mark.specs.Marks.{is_marked, mark_at, marks_of_row};
+ghost use Rattle.cap_mark.specs.Marks.{is_marked, mark_at, row_mark_bytes};
 
 /// Place j of a row is marked exactly where the map doesn't call its byte rescued.
 pub fn marks_say_what_is_lost()
-    ensures { (spans : List MapSpan) (start j : ℕ) → j < 182 → mark_at (marks_of_row spans start) j ≡ is_marked spans start j }
+    ensures { (spans : List MapSpan) (start j : ℕ) → j < 182 → mark_at (row_mark_bytes spans start) j ≡ is_marked spans start j }
 {}
 
 /// Without a fault a whole capture comes out with its marks.

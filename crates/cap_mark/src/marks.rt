@@ -3,7 +3,7 @@
 ghost use Rattle.std.specs.Prelude.{◌≡◌, ◌<◌, ◌≤◌, ◌+◌, ◌*◌, ◌^◌, ◌++◌, ◌&&◌, [], ◌∷◌, nat_lt, not, length};
 ghost use Rattle.arrayvec.specs.ArrayVec.{array_vec_len};
 ghost use Rattle.cap_mark.specs.Frames.{marked_rows};
-ghost use Rattle.cap_mark.specs.Marks.{bit_of, bits_of, is_marked, mark_bytes, marks_of_row};
+ghost use Rattle.cap_mark.specs.Marks.{bit_of, bits_of_marks, is_marked, mark_bytes, row_mark_bytes};
 
 use crate::walk::{is_rescued, spans_from, whole_row};
 use arrayvec::ArrayVec;
@@ -48,7 +48,7 @@ fn put(out: &mut MarkedFrame, bytes: &[u8])
 fn put_marks(spans: &[Span], start: u64, out: &mut MarkedFrame)
     requires room { array_vec_len out.old + 23 ≤ 2665 }
     requires start { start + 182 < 2 ^ 64 }
-    ensures items { out.new.items ≡ out.old.items ++ marks_of_row spans.now start }
+    ensures items { out.new.items ≡ out.old.items ++ row_mark_bytes spans.now start }
     ensures len { array_vec_len out.new ≡ array_vec_len out.old + 23 }
 {
     match whole_row(spans, start) {
@@ -76,7 +76,7 @@ fn put_mixed(spans: &[Span], start: u64, out: &mut MarkedFrame)
 fn mark_byte(spans: &[Span], start: u64, place: u64) -> u8
     requires place { place ≤ 176 }
     requires start { start + 182 < 2 ^ 64 }
-    ensures { result ≡ bits_of (is_marked spans.now start) place 8 }
+    ensures { result ≡ bits_of_marks (is_marked spans.now start) place 8 }
 {
     let mut byte = 0;
     for k in 0..8 {

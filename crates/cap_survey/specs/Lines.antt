@@ -5,9 +5,9 @@ use Rattle.cap_survey.specs.declared.block.BlockLine.{BlockLine}
 use Rattle.cap_survey.specs.declared.totals.Totals.{Totals}
 
 -- there is a text, and nothing in it
-abbrev pub is_empty : Option (List ℕ) → Bool
-is_empty None = false
-is_empty (Some text) = length text == 0
+abbrev pub is_empty_text : Option (List ℕ) → Bool
+is_empty_text None = false
+is_empty_text (Some text) = length text == 0
 
 -- there is a number, and nothing after it
 abbrev pub ends : Option NumberAt → Bool
@@ -26,13 +26,13 @@ is_word (Some word) = length word == 8 && are_hexadecimal word
 abbrev pub is_found : List ℕ → Bool
 is_found text = is_word (after_text (codes " found ") text)
 
-abbrev pub has_found : Option NumberAt → Bool
-has_found None = false
-has_found (Some frame) = is_found frame.rest
+abbrev pub has_found_id : Option NumberAt → Bool
+has_found_id None = false
+has_found_id (Some frame) = is_found frame.rest
 
 -- the number of a frame, and the ID that was found there
 abbrev pub is_address : List ℕ → Bool
-is_address text = has_found (number_after (codes "address ") text)
+is_address text = has_found_id (number_after (codes "address ") text)
 
 -- why a block is refused
 abbrev pub is_cause : List ℕ → Bool
@@ -43,7 +43,7 @@ is_cause text =
 -- whether a block is refused, by what its line says after the colon
 abbrev pub refused_by : List ℕ → Option Bool
 refused_by answer =
-    if is_empty (after_text (codes "whole") answer) then Some false else (if is_cause answer then Some true else None)
+    if is_empty_text (after_text (codes "whole") answer) then Some false else (if is_cause answer then Some true else None)
 
 -- a text after six hexadecimal digits
 abbrev pub after_six : List ℕ → Option (List ℕ)
@@ -53,8 +53,8 @@ abbrev pub after_sector : List ℕ → Option (List ℕ)
 after_sector text = option_and_then after_six (after_text (codes " sector ") text)
 
 -- The line of a block, `block K sector H6 layer L pi P failed F sum8 S: ANSWER`, where ANSWER is `whole` or a cause.
-abbrev pub block_of : List ℕ → Option BlockLine
-block_of line =
+abbrev pub block_line : List ℕ → Option BlockLine
+block_line line =
     option_and_then (λ block.
     option_and_then (λ place.
     option_and_then (λ layer.

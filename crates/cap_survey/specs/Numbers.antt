@@ -30,18 +30,18 @@ pub record NumberAt : Type 0 where
   pub rest : List ℕ
 
 -- a number as the code has it
-abbrev pub number_of : Number → NumberAt
-number_of n = record { value = n.value; rest = n.rest.now }
+abbrev pub number_seen : Number → NumberAt
+number_seen n = record { value = n.value; rest = n.rest.now }
 
 -- The number in decimal at the beginning of a text: below 10 ^ 18, and without a zero before other digits.
-abbrev pub number_at : List ℕ → Option NumberAt
-number_at text =
+abbrev pub leading_number : List ℕ → Option NumberAt
+leading_number text =
     if digit_count text == 0 || (nat_lt 1 (digit_count text) && slice_index text 0 == 48) then None
     else option_map (λ value. record { value = value; rest = drop (digit_count text) text }) (with_digits 0 (take (digit_count text) text))
 
 -- the number after this text at the beginning of another
 abbrev pub number_after : List ℕ → List ℕ → Option NumberAt
-number_after name text = option_and_then number_at (after_text name text)
+number_after name text = option_and_then leading_number (after_text name text)
 
 -- a hexadecimal digit, in capitals
 abbrev pub is_hexadecimal : ℕ → Bool

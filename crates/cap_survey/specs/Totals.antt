@@ -11,8 +11,8 @@ sum8_of cell = cell.sum8
 abbrev pub pi_of : Cell → ℕ
 pi_of cell = cell.pi
 
-abbrev pub failed_of : Cell → ℕ
-failed_of cell = cell.failed
+abbrev pub failed_in_cell : Cell → ℕ
+failed_in_cell cell = cell.failed
 
 abbrev pub refused_of : Cell → Bool
 refused_of cell = cell.refused
@@ -35,7 +35,7 @@ abbrev pub totals_of : List Cell → Totals
 totals_of cells = record {
   blocks = length cells;
   pi = sum_by pi_of cells;
-  failed = sum_by failed_of cells;
+  failed = sum_by failed_in_cell cells;
   damaged = count_by refused_of cells;
   peak = greatest_of sum8_of cells;
   peak_at = before_first (λ cell. sum8_of cell == greatest_of sum8_of cells) cells;

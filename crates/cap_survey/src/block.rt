@@ -1,6 +1,6 @@
 //! The line of a block, read part by part in the order in which `dvdecc survey` writes it.
 ghost use Rattle.std.specs.Prelude.{◌≡◌, option_map};
-ghost use Rattle.cap_survey.specs.Lines.{after_sector, block_of, is_address, is_alone, is_cause, is_empty, is_found, refused_by};
+ghost use Rattle.cap_survey.specs.Lines.{after_sector, block_line, is_address, is_alone, is_cause, is_empty_text, is_found, refused_by};
 
 use crate::number::{after_text, are_hexadecimal, number_after};
 
@@ -16,8 +16,8 @@ pub struct BlockLine {
 }
 
 /// What a line says, if it is that of a block.
-pub fn block_of(line: &[u8]) -> Option<BlockLine>
-    ensures { result ≡ block_of line.now }
+pub fn block_line(line: &[u8]) -> Option<BlockLine>
+    ensures { result ≡ block_line line.now }
 {
     let block = number_after(line, b"block ")?;
     let layer = number_after(after_sector(block.rest)?, b" layer ")?;
@@ -52,7 +52,7 @@ fn after_sector<'a>(text: &'a [u8]) -> Option<&'a [u8]>
 fn refused_by(answer: &[u8]) -> Option<bool>
     ensures { result ≡ refused_by answer.now }
 {
-    if is_empty(after_text(answer, b"whole")) {
+    if is_empty_text(after_text(answer, b"whole")) {
         Some(false)
     } else if is_cause(answer) {
         Some(true)
@@ -62,8 +62,8 @@ fn refused_by(answer: &[u8]) -> Option<bool>
 }
 
 // Whether there is a text, and nothing in it.
-fn is_empty(text: Option<&[u8]>) -> bool
-    ensures { result ≡ is_empty (option_map (λ s. s.now) text.entry) }
+fn is_empty_text(text: Option<&[u8]>) -> bool
+    ensures { result ≡ is_empty_text (option_map (λ s. s.now) text.entry) }
 {
     match text {
         Some(text) => text.is_empty(),

@@ -4,7 +4,7 @@ use thiserror::Error;
 
 /// The rule that a line breaks.
 #[derive(Clone, Copy, Debug, PartialEq, Eq, Error)]
-pub enum Cause {
+pub enum SurveyCause {
     /// It is neither the line of a block nor a line of totals.
     #[error("no line of a survey")]
     Form,
@@ -33,5 +33,5 @@ pub enum Cause {
 #[error("line {line}: {cause}")]
 pub struct Fault {
     pub line: u64,
-    pub cause: Cause,
+    pub cause: SurveyCause,
 }

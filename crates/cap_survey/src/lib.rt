@@ -13,8 +13,8 @@ mod text; // lines that come in pieces
 mod totals; // totals over blocks, and their line
 
 pub use cell::Cell;
-pub use fault::{Cause, Fault};
-pub use survey::Survey;
+pub use fault::{Fault, SurveyCause};
+pub use survey::ReadSurvey;
 pub use text::Reading;
 pub use totals::{Totals, count_refused, greatest_failed, greatest_sum8, totals_of};
 

@@ -1,7 +1,7 @@
 //! Texts and numbers at the beginning of a text: the parts of which lines are read.
 ghost use Rattle.std.specs.Prelude.{◌≡◌, ◌<◌, ◌≤◌, ◌^◌, length, option_map, IfSome};
 ghost use Rattle.std.specs.List.{list_all};
-ghost use Rattle.cap_survey.specs.Numbers.{after_text, are_hexadecimal, digit_count, is_hexadecimal, number_after, number_at, number_of, with_digit, with_digits};
+ghost use Rattle.cap_survey.specs.Numbers.{after_text, are_hexadecimal, digit_count, is_hexadecimal, number_after, leading_number, number_seen, with_digit, with_digits};
 
 /// A number, and what comes after it.
 #[derive(Clone, Copy, Drop)]
@@ -19,15 +19,15 @@ pub fn after_text<'a>(text: &'a [u8], name: &[u8]) -> Option<&'a [u8]>
 
 /// The number in decimal after this text at the beginning of another.
 pub fn number_after<'a>(text: &'a [u8], name: &[u8]) -> Option<Number<'a>>
-    ensures { option_map number_of result ≡ number_after name.now text.now }
+    ensures { option_map number_seen result ≡ number_after name.now text.now }
 {
-    number_at(after_text(text, name)?)
+    leading_number(after_text(text, name)?)
 }
 
 // The number in decimal at the beginning of a text: below 10^18, and without a zero before other digits. So each number
 // has one spelling, which is the one that `dvdecc` writes.
-fn number_at<'a>(text: &'a [u8]) -> Option<Number<'a>>
-    ensures { option_map number_of result ≡ number_at text.now }
+fn leading_number<'a>(text: &'a [u8]) -> Option<Number<'a>>
+    ensures { option_map number_seen result ≡ leading_number text.now }
 {
     let count = count_digits(text);
     if count == 0 || count > 1 && text[0] == b'0' {

@@ -3,9 +3,9 @@ ghost use Rattle.std.specs.Prelude.{◌≡◌, ◌≤◌, ◌+◌, [], length, f
 ghost use Rattle.cap_survey.specs.Survey.{cell_of, last_seven, line_read, next_line, with_block, with_totals};
 ghost use Rattle.cap_survey.specs.Totals.{pi_of};
 
-use crate::block::{BlockLine, block_of};
+use crate::block::{BlockLine, block_line};
 use crate::cell::Cell;
-use crate::fault::Cause;
+use crate::fault::SurveyCause;
 use crate::totals::{Totals, sum_pi, totals_in, totals_of};
 use std::alloc::{AllocError, Global};
 use std::marker::Model;
@@ -19,28 +19,28 @@ const LINE: usize = 255;
 
 /// The blocks whose lines were read, and whether the line of totals was. Contracts see it as these two.
 #[derive(Drop)]
-pub struct Survey {
+pub struct ReadSurvey {
     cells: Vec<Cell>,
     closed: bool,
 }
 
-impl Model for Survey {
+impl Model for ReadSurvey {
     ghost use Rattle.std.specs.Prelude.{◌≤◌, vec_len, vec_capacity};
-    ghost use Rattle.cap_survey.specs.Survey.{Read};
+    ghost use Rattle.cap_survey.specs.Survey.{SurveyRead};
 
-    ghost Value = { Read };
+    ghost Value = { SurveyRead };
 
     ghost view = { λ s. record { cells = s.cells.items; closed = s.closed } };
 
     ghost invariant = { λ s. (vec_len s.cells ≤ 2097152) × (2097152 ≤ vec_capacity s.cells) };
 }
 
-impl Survey {
+impl ReadSurvey {
     /// A survey of which nothing was read. The memory for all of its blocks is allocated here.
-    pub fn new(alloc: Global) -> Result<Survey, AllocError>
+    pub fn new(alloc: Global) -> Result<ReadSurvey, AllocError>
         ensures { IfOk result (λ survey. survey ≡ record { cells = []; closed = false }) }
     {
-        Ok(Survey {
+        Ok(ReadSurvey {
             cells: Vec::with_capacity(alloc, ROOM)?,
             closed: false,
         })
@@ -48,7 +48,7 @@ impl Survey {
 
     /// Reads one more line, which is given without its line feed. A line that breaks a rule leaves the survey as it
     /// was.
-    pub fn add(&mut self, line: &[u8]) -> Result<(), Cause>
+    pub fn add(&mut self, line: &[u8]) -> Result<(), SurveyCause>
         ensures read { OnOk result (line_read self.old line.now ≡ Ok self.new) }
         ensures rule { IfErr result (λ cause. line_read self.old line.now ≡ Err cause) }
         ensures same { OnErr result (self.new ≡ self.old) }
@@ -56,23 +56,23 @@ impl Survey {
         ensures bound { OnOk result (next_line self.new ≤ 2097154) }
     {
         if line.len() > LINE {
-            return Err(Cause::Form);
+            return Err(SurveyCause::Form);
         }
         // The totals end a survey.
         if self.closed {
-            return Err(Cause::After);
+            return Err(SurveyCause::After);
         }
-        if let Some(block) = block_of(line) {
+        if let Some(block) = block_line(line) {
             return self.add_block(&block);
         }
         match totals_in(line) {
             Some(totals) => self.add_totals(&totals),
-            None => Err(Cause::Form),
+            None => Err(SurveyCause::Form),
         }
     }
 
     // Reads the line of a block.
-    fn add_block(&mut self, block: &BlockLine) -> Result<(), Cause>
+    fn add_block(&mut self, block: &BlockLine) -> Result<(), SurveyCause>
         ensures read { OnOk result (with_block self.old block.now ≡ Ok self.new) }
         ensures rule { IfErr result (λ cause. with_block self.old block.now ≡ Err cause) }
         ensures same { OnErr result (self.new ≡ self.old) }
@@ -87,7 +87,7 @@ impl Survey {
     }
 
     // Reads the line of totals.
-    fn add_totals(&mut self, totals: &Totals) -> Result<(), Cause>
+    fn add_totals(&mut self, totals: &Totals) -> Result<(), SurveyCause>
         requires { self.old.closed ≡ false }
         ensures read { OnOk result (with_totals self.old totals.now ≡ Ok self.new) }
         ensures rule { IfErr result (λ cause. with_totals self.old totals.now ≡ Err cause) }
@@ -96,7 +96,7 @@ impl Survey {
     {
         // So a survey that lost a line isn't drawn as a whole one.
         if *totals != totals_of(&self.cells) {
-            return Err(Cause::Totals);
+            return Err(SurveyCause::Totals);
         }
         self.closed = true;
         Ok(())
@@ -126,7 +126,7 @@ impl Survey {
 }
 
 // What is kept of a block that comes after these, or the first rule that its line breaks.
-fn cell_of(cells: &[Cell], block: &BlockLine) -> Result<Cell, Cause>
+fn cell_of(cells: &[Cell], block: &BlockLine) -> Result<Cell, SurveyCause>
     requires { length cells.now ≤ 2097152 }
     ensures cell { result ≡ cell_of cells.now block.now }
     ensures room { OnOk result (length cells.now + 1 ≤ 2097152) }
@@ -138,17 +138,17 @@ fn cell_of(cells: &[Cell], block: &BlockLine) -> Result<Cell, Cause>
         ..
     } = *block;
     if block.block != cells.len() as u64 {
-        return Err(Cause::Order);
+        return Err(SurveyCause::Order);
     }
     // A block has 208 rows, and a failed row has a PI error.
     if block.layer > 1 || pi > 208 || failed > pi {
-        return Err(Cause::Range);
+        return Err(SurveyCause::Range);
     }
     if sum8 != pi + sum_of_seven(cells) {
-        return Err(Cause::Sum8);
+        return Err(SurveyCause::Sum8);
     }
     if cells.len() == ROOM {
-        return Err(Cause::TooMany);
+        return Err(SurveyCause::TooMany);
     }
     Ok(Cell {
         sum8: sum8 as u16,

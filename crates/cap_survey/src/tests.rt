@@ -1,7 +1,7 @@
 //! Surveys as `dvdecc survey` writes them, and texts that are none.
 ghost use Rattle.std.specs.Prelude.{◌<◌};
 
-use crate::{Cause, Cell, Fault, Reading, totals_of};
+use crate::{Cell, Fault, Reading, SurveyCause, totals_of};
 use std::alloc::Global;
 use std::test::Fail;
 
@@ -68,165 +68,165 @@ fn a_survey_that_is_cut(rt: HostRuntime) -> Result<(), Fail> {
 static FIRST: &str = "block 0 sector 030000 layer 0 pi 9 failed 2 sum8 9: whole\n";
 
 // What comes after the line of the first block, the number of the line that breaks a rule, and the rule.
-static FAULTS: [(&str, u64, Cause); 33] = [
-    ("\n", 2, Cause::Form),
-    ("done\n", 2, Cause::Form),
-    ("block 1\n", 2, Cause::Form),
+static FAULTS: [(&str, u64, SurveyCause); 33] = [
+    ("\n", 2, SurveyCause::Form),
+    ("done\n", 2, SurveyCause::Form),
+    ("block 1\n", 2, SurveyCause::Form),
     (
         "block 1 sector 03001 layer 0 pi 0 failed 0 sum8 9: whole\n",
         2,
-        Cause::Form,
+        SurveyCause::Form,
     ),
     (
         "block 1 sector 03001g layer 0 pi 0 failed 0 sum8 9: whole\n",
         2,
-        Cause::Form,
+        SurveyCause::Form,
     ),
     (
         "block 1 sector 03001a layer 0 pi 0 failed 0 sum8 9: whole\n",
         2,
-        Cause::Form,
+        SurveyCause::Form,
     ),
     (
         "block 01 sector 030010 layer 0 pi 0 failed 0 sum8 9: whole\n",
         2,
-        Cause::Form,
+        SurveyCause::Form,
     ),
     (
         "block 1  sector 030010 layer 0 pi 0 failed 0 sum8 9: whole\n",
         2,
-        Cause::Form,
+        SurveyCause::Form,
     ),
     (
         "block -1 sector 030010 layer 0 pi 0 failed 0 sum8 9: whole\n",
         2,
-        Cause::Form,
+        SurveyCause::Form,
     ),
     (
         "block 1000000000000000000 sector 030010 layer 0 pi 0 failed 0 sum8 9: whole\n",
         2,
-        Cause::Form,
+        SurveyCause::Form,
     ),
     (
         "block 1 sector 030010 layer 0 pi 0 failed 0 sum8 9: whole \n",
         2,
-        Cause::Form,
+        SurveyCause::Form,
     ),
     (
         "block 1 sector 030010 layer 0 pi 0 failed 0 sum8 9: whole\r\n",
         2,
-        Cause::Form,
+        SurveyCause::Form,
     ),
     (
         "block 1 sector 030010 layer 0 pi 0 failed 0 sum8 9: row\n",
         2,
-        Cause::Form,
+        SurveyCause::Form,
     ),
     (
         "block 1 sector 030010 layer 0 pi 0 failed 0 sum8 9: rows \n",
         2,
-        Cause::Form,
+        SurveyCause::Form,
     ),
     (
         "block 1 sector 030010 layer 0 pi 0 failed 0 sum8 9: edc 16 saved 3\n",
         2,
-        Cause::Form,
+        SurveyCause::Form,
     ),
     (
         "block 1 sector 030010 layer 0 pi 0 failed 0 sum8 9: address 3 found 0003001\n",
         2,
-        Cause::Form,
+        SurveyCause::Form,
     ),
     (
         "block 1 sector 030010 layer 0 pi 0 failed 0 sum8 9: address 3\n",
         2,
-        Cause::Form,
+        SurveyCause::Form,
     ),
     (
         "block 1 sector 030010 layer 0 pi 0 failed 0 sum8 9:\n",
         2,
-        Cause::Form,
+        SurveyCause::Form,
     ),
     (
         "block 0 sector 030000 layer 0 pi 9 failed 2 sum8 18: whole\n",
         2,
-        Cause::Order,
+        SurveyCause::Order,
     ),
     (
         "block 2 sector 030020 layer 0 pi 0 failed 0 sum8 9: whole\n",
         2,
-        Cause::Order,
+        SurveyCause::Order,
     ),
     (
         "block 999999999999999999 sector 030020 layer 0 pi 0 failed 0 sum8 9: whole\n",
         2,
-        Cause::Order,
+        SurveyCause::Order,
     ),
     (
         "block 1 sector 030010 layer 2 pi 0 failed 0 sum8 9: whole\n",
         2,
-        Cause::Range,
+        SurveyCause::Range,
     ),
     (
         "block 1 sector 030010 layer 0 pi 209 failed 0 sum8 218: whole\n",
         2,
-        Cause::Range,
+        SurveyCause::Range,
     ),
     (
         "block 1 sector 030010 layer 0 pi 3 failed 4 sum8 12: whole\n",
         2,
-        Cause::Range,
+        SurveyCause::Range,
     ),
     (
         "block 1 sector 030010 layer 0 pi 0 failed 0 sum8 8: whole\n",
         2,
-        Cause::Sum8,
+        SurveyCause::Sum8,
     ),
     (
         "blocks 2 pi 9 failed 2 damaged 0 peak 9 at 0 over 0\n",
         2,
-        Cause::Totals,
+        SurveyCause::Totals,
     ),
     (
         "blocks 1 pi 8 failed 2 damaged 0 peak 9 at 0 over 0\n",
         2,
-        Cause::Totals,
+        SurveyCause::Totals,
     ),
     (
         "blocks 1 pi 9 failed 2 damaged 1 peak 9 at 0 over 0\n",
         2,
-        Cause::Totals,
+        SurveyCause::Totals,
     ),
     (
         "blocks 1 pi 9 failed 2 damaged 0 peak 9 at 1 over 0\n",
         2,
-        Cause::Totals,
+        SurveyCause::Totals,
     ),
     (
         "blocks 1 pi 9 failed 2 damaged 0 peak 9 at 0 over 0 \n",
         2,
-        Cause::Form,
+        SurveyCause::Form,
     ),
     (
         "blocks 1 pi 9 failed 2 damaged 0 peak 9 at 0 over 0\n\n",
         3,
-        Cause::After,
+        SurveyCause::After,
     ),
     (
         "blocks 1 pi 9 failed 2 damaged 0 peak 9 at 0 over 0\nx",
         3,
-        Cause::After,
+        SurveyCause::After,
     ),
     (
         "0123456789012345678901234567890123456789012345678901234567890123456789012345678901234567890123456789\
          0123456789012345678901234567890123456789012345678901234567890123456789012345678901234567890123456789\
          01234567890123456789012345678901234567890123456789012345",
         2,
-        Cause::Form,
+        SurveyCause::Form,
     ),
 ];
 
-fn breaks(alloc: Global, case: &(&str, u64, Cause)) -> Result<(), Fail> {
+fn breaks(alloc: Global, case: &(&str, u64, SurveyCause)) -> Result<(), Fail> {
     let mut reading = Reading::new(alloc)?;
     reading.take(FIRST.as_bytes()).map_err(|_| 0)?;
     let fault = Fault {

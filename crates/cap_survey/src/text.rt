@@ -1,9 +1,9 @@
 //! A survey that comes in pieces of any length, put together line by line.
 ghost use Rattle.std.specs.Prelude.{◌≡◌, ◌<◌, ◌≤◌, ◌+◌, ◌^◌, ℕ, List, [], ◌∷◌, ◌++◌, length, Ok, Err, IfOk, IfErr, OnOk};
-ghost use Rattle.cap_survey.specs.Survey.{fault_at, nothing, progress, reading};
+ghost use Rattle.cap_survey.specs.Survey.{fault_of_next, nothing_read, progress, reading_on};
 
-use crate::fault::{Cause, Fault};
-use crate::survey::Survey;
+use crate::fault::{Fault, SurveyCause};
+use crate::survey::ReadSurvey;
 use arrayvec::ArrayVec;
 use std::alloc::{AllocError, Global};
 use std::marker::Model;
@@ -12,7 +12,7 @@ use std::marker::Model;
 /// these two. A line is kept until its end came, since a piece may end within it.
 #[derive(Drop)]
 pub struct Reading {
-    survey: Survey,
+    survey: ReadSurvey,
     line: ArrayVec<u8, 255>,
 }
 
@@ -30,18 +30,18 @@ impl Model for Reading {
 impl Reading {
     /// A survey of which nothing was read. All of its memory is allocated here.
     pub fn new(alloc: Global) -> Result<Reading, AllocError>
-        ensures { IfOk result (λ reading. reading ≡ record { read = nothing; line = [] }) }
+        ensures { IfOk result (λ reading_on. reading_on ≡ record { read = nothing_read; line = [] }) }
     {
         Ok(Reading {
-            survey: Survey::new(alloc)?,
+            survey: ReadSurvey::new(alloc)?,
             line: ArrayVec::new(),
         })
     }
 
     /// Reads more bytes, or gives the first line that breaks a rule, whatever follows. No survey has 2^30 bytes.
     pub fn take(&mut self, bytes: &[u8]) -> Result<(), Fault>
-        ensures read { OnOk result ((more : List ℕ) → reading self.old (bytes.now ++ more) ≡ reading self.new more) }
-        ensures rule { IfErr result (λ fault. (more : List ℕ) → reading self.old (bytes.now ++ more) ≡ Err fault) }
+        ensures read { OnOk result ((more : List ℕ) → reading_on self.old (bytes.now ++ more) ≡ reading_on self.new more) }
+        ensures rule { IfErr result (λ fault. (more : List ℕ) → reading_on self.old (bytes.now ++ more) ≡ Err fault) }
         ensures grows { OnOk result (progress self.old + length bytes.now ≤ progress self.new) }
         ensures bound { OnOk result (0 < length bytes.now → progress self.new < 2 ^ 30) }
     {
@@ -52,8 +52,8 @@ impl Reading {
     }
 
     fn put(&mut self, byte: u8) -> Result<(), Fault>
-        ensures read { OnOk result ((more : List ℕ) → reading self.old (byte ∷ more) ≡ reading self.new more) }
-        ensures rule { IfErr result (λ fault. (more : List ℕ) → reading self.old (byte ∷ more) ≡ Err fault) }
+        ensures read { OnOk result ((more : List ℕ) → reading_on self.old (byte ∷ more) ≡ reading_on self.new more) }
+        ensures rule { IfErr result (λ fault. (more : List ℕ) → reading_on self.old (byte ∷ more) ≡ Err fault) }
         ensures grows { OnOk result (progress self.old + 1 ≤ progress self.new) }
         ensures bound { OnOk result (progress self.new < 2 ^ 30) }
     {
@@ -62,7 +62,7 @@ impl Reading {
         }
         // No line of a survey is longer, so that the rest of it needn't come.
         if self.line.is_full() {
-            return Err(self.fault(Cause::Form));
+            return Err(self.fault(SurveyCause::Form));
         }
         self.line.push(byte);
         Ok(())
@@ -70,8 +70,8 @@ impl Reading {
 
     // Reads the line that has begun.
     fn end_line(&mut self) -> Result<(), Fault>
-        ensures read { OnOk result ((more : List ℕ) → reading self.old (10 ∷ more) ≡ reading self.new more) }
-        ensures rule { IfErr result (λ fault. (more : List ℕ) → reading self.old (10 ∷ more) ≡ Err fault) }
+        ensures read { OnOk result ((more : List ℕ) → reading_on self.old (10 ∷ more) ≡ reading_on self.new more) }
+        ensures rule { IfErr result (λ fault. (more : List ℕ) → reading_on self.old (10 ∷ more) ≡ Err fault) }
         ensures grows { OnOk result (progress self.old + 1 ≤ progress self.new) }
         ensures bound { OnOk result (progress self.new < 2 ^ 30) }
     {
@@ -86,20 +86,20 @@ impl Reading {
 
     /// Ends the text: how many bytes of a last line that is cut there are, or that these break a rule.
     pub fn end(&self) -> Result<usize, Fault>
-        ensures read { IfOk result (λ left. reading self.now [] ≡ Ok (record { read = self.now.read; left = left })) }
-        ensures rule { IfErr result (λ fault. reading self.now [] ≡ Err fault) }
+        ensures read { IfOk result (λ left. reading_on self.now [] ≡ Ok (record { read = self.now.read; left = left })) }
+        ensures rule { IfErr result (λ fault. reading_on self.now [] ≡ Err fault) }
     {
         // Before the line of totals they are a line that was cut, and no fault.
         let left = self.line.len();
         if self.survey.is_closed() && left > 0 {
-            return Err(self.fault(Cause::After));
+            return Err(self.fault(SurveyCause::After));
         }
         Ok(left)
     }
 
     // The fault of the line that comes next.
-    fn fault(&self, cause: Cause) -> Fault
-        ensures { result ≡ fault_at self.now.read cause }
+    fn fault(&self, cause: SurveyCause) -> Fault
+        ensures { result ≡ fault_of_next self.now.read cause }
     {
         Fault {
             line: self.survey.next_line(),
@@ -108,7 +108,7 @@ impl Reading {
     }
 
     /// What was read.
-    pub fn survey(&self) -> &Survey
+    pub fn survey(&self) -> &ReadSurvey
         ensures { result.now ≡ self.now.read }
     {
         &self.survey

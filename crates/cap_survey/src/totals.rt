@@ -1,7 +1,7 @@
 //! Totals over blocks, and the line of totals. They are counted anew, so that the line can be compared with them.
 ghost use Rattle.std.specs.Prelude.{◌≡◌, ◌≤◌, ◌*◌, ◌==◌, length, sum_by, count_by};
 ghost use Rattle.cap_survey.specs.Lines.{totals_in};
-ghost use Rattle.cap_survey.specs.Totals.{before_first, failed_of, greatest_of, is_over, pi_of, refused_of, sum8_of, totals_of};
+ghost use Rattle.cap_survey.specs.Totals.{before_first, failed_in_cell, greatest_of, is_over, pi_of, refused_of, sum8_of, totals_of};
 
 use crate::cell::Cell;
 use crate::number::number_after;
@@ -82,7 +82,7 @@ pub fn sum_pi(cells: &[Cell]) -> u64
 
 fn sum_failed(cells: &[Cell]) -> u64
     requires { length cells.now ≤ 2097152 }
-    ensures { result ≡ sum_by failed_of cells.now }
+    ensures { result ≡ sum_by failed_in_cell cells.now }
 {
     let mut sum = 0;
     for cell in cells {
@@ -139,7 +139,7 @@ pub fn greatest_sum8(cells: &[Cell]) -> u16
 
 /// The greatest number of failed rows of some blocks, and 0 of none.
 pub fn greatest_failed(cells: &[Cell]) -> u8
-    ensures { result ≡ greatest_of failed_of cells.now }
+    ensures { result ≡ greatest_of failed_in_cell cells.now }
 {
     let mut greatest = 0;
     for cell in cells {

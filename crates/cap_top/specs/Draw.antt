@@ -3,15 +3,15 @@ use Rattle.std.specs.Prelude.{◌≡◌, ℕ, List, ◌++◌, codes, decimal}
 use Rattle.cap_draw.specs.Drawn.{HasDrawn}
 use Rattle.cap_draw.specs.declared.drawing.DrawEnd.{DrawEnd}
 use Rattle.cap_draw.specs.declared.drawing.DrawEnd.TheVariants.{Done, NoMemory, ReadFault, Rule, Short, WriteFault}
-use Rattle.cap_survey.specs.declared.fault.Cause.{Cause}
-use Rattle.cap_survey.specs.declared.fault.Cause.TheVariants as causes
+use Rattle.cap_survey.specs.declared.fault.SurveyCause.{SurveyCause}
+use Rattle.cap_survey.specs.declared.fault.SurveyCause.TheVariants as causes
 use Rattle.cap_top.specs.Closing.{EndsWith, rule_line}
 use Rattle.cap_top.specs.declared.status.Status.{Status}
 use Rattle.cap_top.specs.declared.status.Status.TheVariants as status
 use Rattle.dvd_ports.specs.Seen.{Seen}
 
 -- the rule that a line of the survey breaks
-abbrev pub rule_text : Cause → List ℕ
+abbrev pub rule_text : SurveyCause → List ℕ
 rule_text causes.Form = codes "form"
 rule_text causes.Order = codes "order"
 rule_text causes.Range = codes "range"

@@ -3,7 +3,7 @@
 pub mod Lines
 use Rattle.std.specs.Prelude.{◌≡◌, ◌⊎◌, Some, List, ℕ, Result, Ok, Err, codes}
 use Rattle.cap_lost.specs.Map.{map_text}
-use Rattle.cap_lost.specs.Reads.{IsRefused, Reads}
+use Rattle.cap_lost.specs.Reads.{IsReportRefused, ReadsReport}
 use Rattle.cap_lost.specs.Report.{Losses}
 use Rattle.cap_lost.specs.declared.fault.ReportFault.{ReportFault}
 use Rattle.cap_lost.specs.declared.fault.ReportFault.TheVariants.{NoMemory, ReadFault, Rule}
@@ -41,7 +41,7 @@ line_by (Err fault) = codes "write fault\n"
 -- weren't written, and of all sectors of the layout.
 pub record HasMapped (layout : Layout) (zones : Zones) (old new : Streams) (result : Status) : Type 0 where
   pub losses : Losses
-  pub reads : Reads layout zones old.source new.source losses
+  pub reads : ReadsReport layout zones old.source new.source losses
   pub answer : Result (Unit {0}) WriteFault
   pub writes : IsWritten (map_text losses.extents losses.written (total_sectors layout)) old.output new.output answer
   pub told : EndsWith (status_by answer) (line_by answer) old.report new.report result
@@ -49,13 +49,13 @@ pub record HasMapped (layout : Layout) (zones : Zones) (old new : Streams) (resu
 -- The report isn't read, and nothing is written.
 pub record HasRefused (layout : Layout) (zones : Zones) (Untouched : Type 0) (old new : Streams) (result : Status) : Type 0 where
   pub fault : ReportFault
-  pub is_refused : IsRefused layout zones old.source new.source fault
+  pub is_refused : IsReportRefused layout zones old.source new.source fault
   pub untouched : Untouched
   pub told : EndsWith (refusal_status fault) (refusal_line fault) old.report new.report result
 
 -- a run of this layout
-abbrev pub HasEnded : Layout → Zones → Type 0 → Streams → Streams → Status → Type 0
-HasEnded layout zones Untouched old new result = HasMapped layout zones old new result ⊎ HasRefused layout zones Untouched old new result
+abbrev pub HasRunByLayout : Layout → Zones → Type 0 → Streams → Streams → Status → Type 0
+HasRunByLayout layout zones Untouched old new result = HasMapped layout zones old new result ⊎ HasRefused layout zones Untouched old new result
 
 -- The layout breaks a rule: nothing is read, and nothing written.
 pub record HasBroken (settings : LostSettings) (Unread Untouched : Type 0) (old new : Streams) (result : Status) : Type 0 where
@@ -69,7 +69,7 @@ pub record HasBroken (settings : LostSettings) (Unread Untouched : Type 0) (old 
 pub record HasRun (settings : LostSettings) (Untouched : Type 0) (old new : Streams) (result : Status) : Type 0 where
   pub layout : Layout
   pub is_layout : IsLayoutOf settings layout
-  pub ended : HasEnded layout settings.zones Untouched old new result
+  pub ended : HasRunByLayout layout settings.zones Untouched old new result
 
 -- THE HEADLINE, of the settings, of the streams before and after, and of the status.
 abbrev pub Headline : LostSettings → Type 0 → Type 0 → Streams → Streams → Status → Type 0

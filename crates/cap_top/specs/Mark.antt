@@ -7,10 +7,10 @@ use Rattle.cap_map.specs.declared.span.Span.{Span}
 use Rattle.cap_mark.specs.Capture.{marked_capture}
 use Rattle.cap_mark.specs.Frames.{mark_units}
 use Rattle.cap_top.specs.Mark.Lines.{closing_line, refusal_line}
-use Rattle.cap_top.specs.Mark.Opening.{IsRefused, Opens}
+use Rattle.cap_top.specs.Mark.Opening.{IsMapRefused, OpensMap}
 use Rattle.cap_top.specs.Mark.Statuses.{refusal_status, status_of}
 use Rattle.cap_top.specs.Closing.{EndsWith}
-use Rattle.cap_top.specs.declared.mark.opening.Refusal.{Refusal}
+use Rattle.cap_top.specs.declared.mark.opening.MapRefusal.{MapRefusal}
 use Rattle.cap_top.specs.declared.status.Status.{Status}
 use Rattle.dvd_loop.specs.Laws.{IsFaultless}
 use Rattle.dvd_loop.specs.Machine.{IsClosed, IsOutcome}
@@ -45,15 +45,15 @@ pub record HasMarked (spans : List Span) (old new : Streams) (result : Status) :
 
 -- The map gives no spans, and the streams except the report are as they were.
 pub record HasRefused (good : List ℕ) (old_map new_map : Seen) (Untouched : Type 0) (old new : Seen) (result : Status) : Type 0 where
-  pub refusal : Refusal
-  pub is_refused : IsRefused good old_map new_map refusal
+  pub refusal : MapRefusal
+  pub is_refused : IsMapRefused good old_map new_map refusal
   pub untouched : Untouched
   pub told : EndsWith (refusal_status refusal) (refusal_line refusal) old new result
 
 -- The map is read to its end, and the capture is marked by its spans.
 pub record HasRun (good : List ℕ) (old_map new_map : Seen) (old new : Streams) (result : Status) : Type 0 where
   pub spans : List Span
-  pub opens : Opens good old_map new_map spans
+  pub opens : OpensMap good old_map new_map spans
   pub marks : HasMarked spans old new result
 
 -- THE HEADLINE, of the statuses that are trusted, of the map and of the streams before and after, and of the status.

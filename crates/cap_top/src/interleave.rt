@@ -1,7 +1,7 @@
 //! A run of `interleave`: several captures in, their blocks in turn out.
 ghost use Rattle.std.specs.Prelude.{◌≡◌, ◌≤◌, length};
 ghost use Rattle.cap_top.specs.Interleave.{Headline, status_of};
-ghost use Rattle.cap_words.specs.Interleave.{IsLawful};
+ghost use Rattle.cap_words.specs.Interleave.{IsValid};
 
 mod lines; // the lines of its report
 
@@ -10,7 +10,7 @@ use crate::status::Status;
 use cap_interleave::{Buffers, InterleaveEnd, interleave_loop};
 use cap_words::InterleaveSettings;
 use dvd_ports::{NoMemory, Sink, Source};
-use lines::close_line;
+use lines::closing_line;
 use std::alloc::Global;
 
 /// Writes the blocks of captures in turn to `out`. The report gets one line, which says how the run ended. Memory is
@@ -22,7 +22,7 @@ pub fn run_interleave<S: Source, K: Sink, E: Sink>(
     out: &mut K,
     report: &mut E,
 ) -> Status
-    requires lawful { IsLawful settings.now }
+    requires valid { IsValid settings.now }
     requires few { length captures.old ≤ 16 }
     ensures { Headline S.seen settings.now captures.old captures.new ((captures.new ≡ captures.old) × (out.new ≡ out.old))
         (K.seen out.old) (K.seen out.new) (E.seen report.old) (E.seen report.new) result }
@@ -31,7 +31,7 @@ pub fn run_interleave<S: Source, K: Sink, E: Sink>(
     match Buffers::new(alloc, settings.form, settings.fill, captures.len()) {
         Ok(mut buffers) => {
             let end = interleave_loop(&mut buffers, captures, out);
-            end_with(status_of(end), close_line(end).as_slice(), report)
+            end_with(status_of(end), closing_line(end).as_slice(), report)
         }
         Err(NoMemory) => end_with(Status::NoMemory, b"no memory\n", report),
     }

@@ -1,7 +1,7 @@
 //! A run of `lost`: a report of `dvdecc` in, a map of the image out.
 ghost use Rattle.std.specs.Prelude.{◌≡◌};
 ghost use Rattle.cap_top.specs.Closing.{EndsWith};
-ghost use Rattle.cap_top.specs.Lost.{Headline, HasEnded, line_by, refusal_status, status_by};
+ghost use Rattle.cap_top.specs.Lost.{Headline, HasRunByLayout, line_by, refusal_status, status_by};
 ghost use Rattle.dvd_loop.specs.Streams.{streams};
 
 mod lines; // the lines of its report
@@ -13,7 +13,7 @@ use cap_words::LostSettings;
 use dvd_layout::{Layout, Zones};
 use dvd_ports::{Sink, Source, WriteFault};
 use dvd_report::setting_line;
-use lines::refused_line;
+use lines::refusal_line;
 use std::alloc::Global;
 
 /// Reads the report of a run of `dvdecc` from `src`, line by line, and then writes the map of its image to `out`. The
@@ -45,7 +45,7 @@ fn map_image<S: Source, K: Sink, E: Sink>(
     out: &mut K,
     report: &mut E,
 ) -> Status
-    ensures { HasEnded layout zones (out.new ≡ out.old)
+    ensures { HasRunByLayout layout zones (out.new ≡ out.old)
         (streams (S.seen src.old) (K.seen out.old) (E.seen report.old))
         (streams (S.seen src.new) (K.seen out.new) (E.seen report.new)) result }
 {
@@ -54,7 +54,7 @@ fn map_image<S: Source, K: Sink, E: Sink>(
         Ok(lost) => end_map(write_map(&lost, layout.total(), out), report),
         Err(fault) => end_with(
             refusal_status(fault),
-            refused_line(fault).as_slice(),
+            refusal_line(fault).as_slice(),
             report,
         ),
     }

@@ -13,8 +13,8 @@ use cap_mark::mark_loop;
 use cap_words::MarkSettings;
 use dvd_loop::{LoopEnd, close};
 use dvd_ports::{Sink, Source};
-use lines::{close_line, refused_line};
-use opening::{Refusal, open_map};
+use lines::{closing_line, refusal_line};
+use opening::{MapRefusal, open_map};
 use std::alloc::Global;
 
 /// Reads the map whole, then the capture from `src`, and writes it to `out` in the marked form. The report gets one
@@ -34,11 +34,11 @@ pub fn run_mark<M: Source, S: Source, K: Sink, E: Sink>(
     match open_map(alloc, settings.good.as_bytes(), map) {
         Ok(spans) => {
             let end = mark_loop(&spans, src, out);
-            status_of(close(end, close_line(end).as_slice(), report))
+            status_of(close(end, closing_line(end).as_slice(), report))
         }
         Err(refusal) => end_with(
             refusal_status(refusal),
-            refused_line(refusal).as_slice(),
+            refusal_line(refusal).as_slice(),
             report,
         ),
     }
@@ -58,12 +58,12 @@ fn status_of(end: LoopEnd) -> Status
     }
 }
 
-fn refusal_status(refusal: Refusal) -> Status
+fn refusal_status(refusal: MapRefusal) -> Status
     ensures { result ≡ refusal_status refusal }
 {
     match refusal {
-        Refusal::NoMemory => Status::NoMemory,
-        Refusal::ReadFault => Status::ReadFault,
-        Refusal::Rule { .. } => Status::BadInput,
+        MapRefusal::NoMemory => Status::NoMemory,
+        MapRefusal::ReadFault => Status::ReadFault,
+        MapRefusal::Rule { .. } => Status::BadInput,
     }
 }

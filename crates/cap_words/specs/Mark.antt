@@ -27,8 +27,8 @@ good_in None = Some (codes "+")
 good_in (Some text) = if is_good text then Some text else None
 
 -- a map, and statuses that blocks can have
-abbrev pub mark_of : List Row → Option MarkAsked
-mark_of rows = do
+abbrev pub mark_command_of : List Row → Option MarkAsked
+mark_command_of rows = do
   map ← first_of (codes "map") rows
   good ← good_in (first_of (codes "good") rows)
   Some (record { map = map; good = good })

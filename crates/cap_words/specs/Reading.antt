@@ -5,9 +5,9 @@ use Rattle.clap.specs.Words.{Row, Text}
 use Rattle.dvd_words.specs.Reading.{◌>>=◌, rows_by}
 use Rattle.cap_words.specs.Apps.{app_for}
 use Rattle.cap_words.specs.Draw.{draw_of}
-use Rattle.cap_words.specs.Interleave.{InterleaveAsked, IsLawful, interleave_asked, interleave_of}
+use Rattle.cap_words.specs.Interleave.{InterleaveAsked, IsValid, interleave_asked, interleave_of}
 use Rattle.cap_words.specs.Lost.{lost_of}
-use Rattle.cap_words.specs.Mark.{MarkAsked, mark_asked, mark_of}
+use Rattle.cap_words.specs.Mark.{MarkAsked, mark_asked, mark_command_of}
 use Rattle.cap_words.specs.declared.settings.Command.{Command}
 use Rattle.cap_words.specs.declared.settings.Command.TheVariants.{Mark, Interleave, Lost, Draw}
 use Rattle.cap_words.specs.declared.settings.DrawSettings.{DrawSettings}
@@ -42,7 +42,7 @@ rows_for command = rows_by (app_for command)
 
 -- each option by its form
 abbrev pub settings_of : Command → List Row → Option Asked
-settings_of Mark rows = option_map AsksMark (mark_of rows)
+settings_of Mark rows = option_map AsksMark (mark_command_of rows)
 settings_of Interleave rows = option_map AsksInterleave (interleave_of rows)
 settings_of Lost rows = option_map AsksLost (lost_of rows)
 settings_of Draw rows = option_map AsksDraw (draw_of rows)
@@ -60,8 +60,8 @@ abbrev pub Asks : List Text → Settings → Type 0
 Asks words settings = reading words ≡ Some (asked_by settings)
 
 -- what holds of all settings that arguments ask for
-abbrev pub AreLawful : Settings → Type 0
-AreLawful (settings.Mark marking) = Unit {0}
-AreLawful (settings.Interleave interleaving) = IsLawful interleaving
-AreLawful (settings.Lost losing) = Unit {0}
-AreLawful (settings.Draw drawing) = (100 ≤ drawing.width) × (drawing.width ≤ 4000)
+abbrev pub AreValid : Settings → Type 0
+AreValid (settings.Mark marking) = Unit {0}
+AreValid (settings.Interleave interleaving) = IsValid interleaving
+AreValid (settings.Lost losing) = Unit {0}
+AreValid (settings.Draw drawing) = (100 ≤ drawing.width) × (drawing.width ≤ 4000)

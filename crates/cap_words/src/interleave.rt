@@ -1,7 +1,7 @@
 //! The values of `interleave`. The files are only named here: they are opened by `main`.
 ghost use Rattle.std.specs.Prelude.{◌≡◌, codes, map, option_map, IfSome};
 ghost use Rattle.clap.specs.Words.{all_of, found_of, rows_of};
-ghost use Rattle.cap_words.specs.Interleave.{IsLawful, are_few, files_in, form_in, interleave_asked, interleave_of, is_set, may_fill};
+ghost use Rattle.cap_words.specs.Interleave.{IsValid, few_files, files_in, form_in, interleave_asked, interleave_of, is_flag_given, may_fill};
 
 use crate::settings::InterleaveSettings;
 use arrayvec::ArrayVec;
@@ -12,10 +12,10 @@ use dvd_words::{given, read_form};
 /// Each option by its form, and from 2 to 16 files.
 pub fn interleave_settings<'a>(matches: &ArgMatches<'a>) -> Option<InterleaveSettings<'a>>
     ensures value { option_map interleave_asked result ≡ interleave_of (rows_of (found_of matches.now)) }
-    ensures lawful { IfSome result IsLawful }
+    ensures valid { IfSome result IsValid }
 {
     let form = form_in(given(matches, "form"))?;
-    let fill = is_set(matches, "fill");
+    let fill = is_flag_given(matches, "fill");
     let files = files_in(matches)?;
     if may_fill(form, fill) {
         Some(InterleaveSettings { form, fill, files })
@@ -43,8 +43,8 @@ fn may_fill(form: Form, fill: bool) -> bool
 }
 
 // clap gives each flag a value, which is a text like others.
-fn is_set(matches: &ArgMatches<'_>, name: &str) -> bool
-    ensures { result ≡ is_set name.now (rows_of (found_of matches.now)) }
+fn is_flag_given(matches: &ArgMatches<'_>, name: &str) -> bool
+    ensures { result ≡ is_flag_given name.now (rows_of (found_of matches.now)) }
 {
     given(matches, name) == Some("true")
 }
@@ -65,7 +65,7 @@ fn given_files<'m, 'a>(matches: &'m ArgMatches<'a>) -> Option<&'m [&'a str]>
 
 // `merge` joins from 2 to 16 captures.
 fn few_files<'a>(names: &[&'a str]) -> Option<ArrayVec<&'a str, 16>>
-    ensures { option_map (λ files. map (λ file. file.now) files.items) result ≡ are_few (map (λ name. name.now) names.now) }
+    ensures { option_map (λ files. map (λ file. file.now) files.items) result ≡ few_files (map (λ name. name.now) names.now) }
 {
     if names.len() < 2 {
         return None;

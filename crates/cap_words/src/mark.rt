@@ -2,7 +2,7 @@
 ghost use Rattle.std.specs.Prelude.{◌≡◌, option_map};
 ghost use Rattle.std.specs.List.{list_all};
 ghost use Rattle.clap.specs.Words.{found_of, rows_of};
-ghost use Rattle.cap_words.specs.Mark.{good_in, is_good, is_good_status, mark_asked, mark_of};
+ghost use Rattle.cap_words.specs.Mark.{good_in, is_good, is_good_status, mark_asked, mark_command_of};
 
 use crate::settings::MarkSettings;
 use clap::ArgMatches;
@@ -10,7 +10,7 @@ use dvd_words::given;
 
 /// Each option by its form.
 pub fn mark_settings<'a>(matches: &ArgMatches<'a>) -> Option<MarkSettings<'a>>
-    ensures { option_map mark_asked result ≡ mark_of (rows_of (found_of matches.now)) }
+    ensures { option_map mark_asked result ≡ mark_command_of (rows_of (found_of matches.now)) }
 {
     let map = given(matches, "map")?;
     let good = good_in(given(matches, "good"))?;

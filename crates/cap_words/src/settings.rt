@@ -75,7 +75,7 @@ impl LostSettings {
     /// The layout of these lengths, or the first rule that they break.
     pub fn layout(&self) -> Result<Layout, LayoutFault>
         ensures lengths { IfOk result (IsLayoutOf self.now) }
-        ensures lawful { IsOk result → broken_rule self.now ≡ None }
+        ensures valid { IsOk result → broken_rule self.now ≡ None }
         ensures refused { IfErr result (λ fault. broken_rule self.now ≡ Some fault) }
     {
         Layout::new(

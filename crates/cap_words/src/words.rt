@@ -2,7 +2,7 @@
 //! wrong is one usage error, so `None` says enough.
 ghost use Rattle.std.specs.Prelude.{◌≡◌, None, IfOk, IfSome, map, option_map, string_bytes};
 ghost use Rattle.clap.specs.Words.{found_of, rows_of};
-ghost use Rattle.cap_words.specs.Reading.{Asks, AreLawful, asked_by, command_of, reading, settings_of};
+ghost use Rattle.cap_words.specs.Reading.{Asks, AreValid, asked_by, command_of, reading, settings_of};
 
 use crate::draw::draw_settings;
 use crate::interleave::interleave_settings;
@@ -19,7 +19,7 @@ use std::alloc::Global;
 pub fn read<'a>(alloc: Global, words: &'a [String]) -> Result<Settings<'a>, WordsFault>
     ensures read { IfOk result (Asks (map string_bytes words.now)) }
     ensures usage { result ≡ Err WordsFault.Usage → reading (map string_bytes words.now) ≡ None }
-    ensures lawful { IfOk result AreLawful }
+    ensures valid { IfOk result AreValid }
 {
     let Some(word) = words.first() else {
         return Err(WordsFault::Usage);
@@ -47,7 +47,7 @@ fn command_named(word: &str) -> Option<Command>
 // Each option by its form.
 fn settings<'a>(command: Command, matches: &ArgMatches<'a>) -> Option<Settings<'a>>
     ensures value { option_map asked_by result ≡ settings_of command (rows_of (found_of matches.now)) }
-    ensures lawful { IfSome result AreLawful }
+    ensures valid { IfSome result AreValid }
 {
     match command {
         Command::Mark => Some(Settings::Mark(mark_settings(matches)?)),

@@ -7,7 +7,7 @@ use Rattle.std.proofs.lemmas.Bool.{cases_lt}
 use Rattle.std.proofs.lemmas.Grind.{same_number_lists}
 use Rattle.std.proofs.lemmas.List.{length-map, length-replicate, length-drop, get_or-drop, take-append-drop}
 use Rattle.std.proofs.lemmas.List.FromFn.{get_or-map-range_with_len, length-range_with_len}
-use Rattle.cd_sector.specs.Laws.{HasAtMostOneWrong, HasRightByte, IsBorne}
+use Rattle.cd_sector.specs.Laws.{HasAtMostOneWrong, HasRightByte, IsCorrectableHalf}
 use Rattle.cd_sector.specs.Repair.{near_word, is_lost, with_p_words, word_marks, with_q_words, repaired}
 use Rattle.cd_sector.specs.Sector.{sync, covered, data_part, IsSector}
 use Rattle.cd_sector.specs.Words.{sector_place, word_size, sector_word, IsRight}
@@ -119,9 +119,9 @@ q_near sector read word j size above below right found first second =
     mark m (inr from) other = unmarked m (is_lost read ((sector_place word m - 12) % 86)) from
 
 -- a Q word of a half whose damage can be corrected is found
-q_borne : (sector read : List ℕ) (word : ℕ) → length read ≡ 2352 → ((k : ℕ) → k < 138 → IsRight sector k) → 86 ≤ word → word < 138 → IsBorne (word % 2) sector read
+q_correctable : (sector read : List ℕ) (word : ℕ) → length read ≡ 2352 → ((k : ℕ) → k < 138 → IsRight sector k) → 86 ≤ word → word < 138 → IsCorrectableHalf (word % 2) sector read
     → near_word (with_p_words read 86) word (word_marks read word) ≡ Some (sector_word sector word)
-q_borne sector read word size right above below (inl scattered) = either (scattered.q_words word above below refl)
+q_correctable sector read word size right above below (inl scattered) = either (scattered.q_words word above below refl)
   where
     found : (m : ℕ) → m < 43 → IsFound sector read (2 * m + word % 2)
     found m covered =
@@ -132,7 +132,7 @@ q_borne sector read word size right above below (inl scattered) = either (scatte
         q_near sector read word 44 size above below (right word below) (λ m covered _. found m covered) (λ _. first) (λ other. absurd (other refl))
     either (inr second) =
         q_near sector read word 43 size above below (right word below) (λ m covered _. found m covered) (λ other. absurd (other refl)) (λ _. second)
-q_borne sector read word size right above below (inr (bad, burst)) =
+q_correctable sector read word size right above below (inr (bad, burst)) =
     q_near sector read word (bad / 2) size above below (right word below)
     (λ m covered other.
     p_near sector read (2 * m + word % 2) (omega arith) (right (2 * m + word % 2) (omega arith))
@@ -140,12 +140,12 @@ q_borne sector read word size right above below (inr (bad, burst)) =
     (λ _. burst.first_own word above below refl) (λ _. burst.second_own word above below refl)
 
 -- where the damage of both halves can be corrected, that of either can be
-of_half : (sector read : List ℕ) (half : ℕ) → half < 2 → IsBorne 0 sector read → IsBorne 1 sector read → IsBorne half sector read
+of_half : (sector read : List ℕ) (half : ℕ) → half < 2 → IsCorrectableHalf 0 sector read → IsCorrectableHalf 1 sector read → IsCorrectableHalf half sector read
 of_half sector read half below low high = either (cases_lt half 1)
   where
-    either : (half < 1) ⊎ (1 ≤ half) → IsBorne half sector read
-    either (inl zero_half) = let is : 0 ≡ half = omega arith in subst (λ (h : ℕ). IsBorne h sector read) is low
-    either (inr one_half) = let is : 1 ≡ half = omega arith in subst (λ (h : ℕ). IsBorne h sector read) is high
+    either : (half < 1) ⊎ (1 ≤ half) → IsCorrectableHalf half sector read
+    either (inl zero_half) = let is : 0 ≡ half = omega arith in subst (λ (h : ℕ). IsCorrectableHalf h sector read) is low
+    either (inr one_half) = let is : 1 ≡ half = omega arith in subst (λ (h : ℕ). IsCorrectableHalf h sector read) is high
 
 -- sectors that have all Q words in common have all bytes after the sync in common
 pub all_bytes : (a b : List ℕ) → ((word : ℕ) → 86 ≤ word → word < 138 → sector_word a word ≡ sector_word b word)
@@ -178,7 +178,7 @@ begins_with_sync address user sector made =
 
 -- Damage that the words can correct is repaired.
 pub given_back : (address : ℕ) (user sector read : List ℕ) → IsSector address user sector → length read ≡ 2352
-    → IsBorne 0 sector read → IsBorne 1 sector read → repaired read ≡ sector
+    → IsCorrectableHalf 0 sector read → IsCorrectableHalf 1 sector read → repaired read ≡ sector
 unfolding repaired
 given_back address user sector read made size low high =
     let first_pass : List ℕ = with_p_words read 86 in
@@ -187,7 +187,7 @@ given_back address user sector read made size low high =
     let whole_size : length whole ≡ 2352 = length-with_q_words read first_pass 52 ∙ first_size in
     let words : (word : ℕ) → 86 ≤ word → word < 138 → sector_word whole word ≡ sector_word sector word = λ word above below.
     q_found read first_pass (sector_word sector word) 52 word first_size (omega arith) above below (length-sector_word sector word)
-    (q_borne sector read word size made.words above below (of_half sector read (word % 2) (omega arith) low high)) in
+    (q_correctable sector read word size made.words above below (of_half sector read (word % 2) (omega arith) low high)) in
     let behind : drop 12 whole ≡ drop 12 sector =
     same_number_lists (drop 12 whole) (drop 12 sector) (omega (arith, length-drop 12 whole, length-drop 12 sector, whole_size, made.size))
     (λ k inside. get_or-drop 12 whole k 0

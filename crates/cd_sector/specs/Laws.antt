@@ -33,14 +33,14 @@ pub record IsBurst (half bad : ℕ) (sector read : List ℕ) : Type 0 where
   pub second_own : (word : ℕ) → 86 ≤ word → word < 138 → IsOfHalf half word → HasRightByte sector read word 44
 
 -- a half is damaged in one of these two ways, if at all
-abbrev pub IsBorne : ℕ → List ℕ → List ℕ → Type 0
-IsBorne half sector read = IsScattered half sector read ⊎ ((bad : ℕ) × IsBurst half bad sector read)
+abbrev pub IsCorrectableHalf : ℕ → List ℕ → List ℕ → Type 0
+IsCorrectableHalf half sector read = IsScattered half sector read ⊎ ((bad : ℕ) × IsBurst half bad sector read)
 
 -- A sector whose halves are both damaged in one of these ways is repaired to what it was. Its sync doesn't count.
-abbrev pub BorneDamageIsRepaired : Type 0
-BorneDamageIsRepaired =
+abbrev pub CorrectableDamageIsRepaired : Type 0
+CorrectableDamageIsRepaired =
     (address : ℕ) (user sector read : List ℕ) → IsSector address user sector → length read ≡ 2352
-    → IsBorne 0 sector read → IsBorne 1 sector read → repaired read ≡ sector
+    → IsCorrectableHalf 0 sector read → IsCorrectableHalf 1 sector read → repaired read ≡ sector
 
 -- a sector that was made has nothing wrong
 abbrev pub SectorsAreFaultless : Type 0

@@ -1,5 +1,5 @@
 //! What holds of every sector. Each function's contract is a law of the definitions; the bodies are empty.
-ghost use Rattle.cd_sector.specs.Laws.{BorneDamageIsRepaired, FaultlessHasNoCause, SectorIsOnlyOne, SectorsAreFaultless, SomeSector};
+ghost use Rattle.cd_sector.specs.Laws.{CorrectableDamageIsRepaired, FaultlessHasNoCause, SectorIsOnlyOne, SectorsAreFaultless, SomeSector};
 
 /// An address and user data have one sector at most.
 pub fn sector_is_only_one()
@@ -25,6 +25,6 @@ pub fn faultless_has_no_cause()
 /// ways. In the first, each P word has at most one wrong byte, and each Q word at most one among its last two. In the
 /// second, one P word is wrong in any way and each other P word has at most one wrong byte; the last two bytes of each
 /// Q word are right.
-pub fn borne_damage_is_repaired()
-    ensures { BorneDamageIsRepaired }
+pub fn correctable_damage_is_repaired()
+    ensures { CorrectableDamageIsRepaired }
 {}

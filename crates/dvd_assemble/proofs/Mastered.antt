@@ -32,7 +32,7 @@ use Rattle.dvd_layout.specs.declared.entry.BlockPlan.{BlockPlan}
 use Rattle.dvd_layout.specs.declared.layout.Layout.{Layout}
 use Rattle.dvd_layout.specs.declared.layout.Zones.TheVariants.{DataOnly}
 use Rattle.dvd_layout.proofs.Ranges.{plan_of-numbers}
-use Rattle.dvd_merge.specs.Agreeing.{IsOf}
+use Rattle.dvd_merge.specs.Agreeing.{IsTableOf}
 use Rattle.dvd_merge.specs.Join.{joined, seen, unseen}
 use Rattle.dvd_merge.specs.declared.place.Place.{Place}
 use Rattle.dvd_merge.specs.declared.place.Place.TheVariants.{Unseen, Value}
@@ -154,7 +154,7 @@ module _ (f : ℕ) (block : List (List ℕ)) (frame : Frame) (captured : IsCaptu
       by_frame (inr elsewhere) = rw elsewhere.0 (inl (unseen_place 182 j))
 
   -- so the table of the frame is of the block
-  table_has : IsOf block (frame_table f frame)
+  table_has : IsTableOf block (frame_table f frame)
   unfolding frame_table
   table_has i j = by_side (cases_lt i 208)
     where
@@ -167,31 +167,31 @@ module _ (f : ℕ) (block : List (List ℕ)) (frame : Frame) (captured : IsCaptu
 
 -- what it says of any block
 told_has : (layout : Layout) (blocks : ℕ → List (List ℕ)) (k : ℕ) (frame : Frame) → AreNamed layout blocks → IsCaptured layout blocks frame
-    → IsOf (blocks k) (told_of layout k frame)
+    → IsTableOf (blocks k) (told_of layout k frame)
 unfolding told_of
 told_has layout blocks k frame named (at, f, within, below, captured) =
-    subst (λ found. IsOf (blocks k) (option_map_or (table_for k frame) found unseen)) (sym home_is) (by_block (eqb_tells ((16 * at + f) / 16) k))
+    subst (λ found. IsTableOf (blocks k) (option_map_or (table_for k frame) found unseen)) (sym home_is) (by_block (eqb_tells ((16 * at + f) / 16) k))
   where
     home_is : home layout frame ≡ Some (16 * at + f)
     home_is = come_home layout at f (blocks at) frame within below (named at within) captured
 
-    by_block : Tells ((16 * at + f) / 16) k → IsOf (blocks k) (table_for k frame (16 * at + f))
+    by_block : Tells ((16 * at + f) / 16) k → IsTableOf (blocks k) (table_for k frame (16 * at + f))
     by_block (inl here) =
         let block : at ≡ k = omega (arith, here.1, below) in
         let number : (16 * at + f) % 16 ≡ f = omega (arith, below) in
-        rw here.0 (subst (λ g. IsOf (blocks k) (frame_table g frame)) (sym number)
-        (subst (λ b. IsOf (blocks b) (frame_table f frame)) block (table_has f (blocks at) frame captured)))
+        rw here.0 (subst (λ g. IsTableOf (blocks k) (frame_table g frame)) (sym number)
+        (subst (λ b. IsTableOf (blocks b) (frame_table f frame)) block (table_has f (blocks at) frame captured)))
     by_block (inr elsewhere) = rw elsewhere.0 (is_of-unseen (blocks k))
 
 -- what all of them say of a block
 block_has : (layout : Layout) (blocks : ℕ → List (List ℕ)) (frames : List Frame) (k : ℕ) → AreNamed layout blocks → All (IsCaptured layout blocks) frames
-    → IsOf (blocks k) (block_at layout frames k)
+    → IsTableOf (blocks k) (block_at layout frames k)
 unfolding joined
 block_has layout blocks frames k named captured =
     is_of-fold (blocks k) unseen (map (told_of layout k) frames) (is_of-unseen (blocks k))
     (λ m d inside.
     let there : m < length frames = omega (arith, inside, length-map frames (told_of layout k)) in
-    subst (IsOf (blocks k)) (sym (get_or-map (told_of layout k) frames m blank d there)) (told_has layout blocks k (get_or frames m blank) named (captured m blank there)))
+    subst (IsTableOf (blocks k)) (sym (get_or-map (told_of layout k) frames m blank d there)) (told_has layout blocks k (get_or frames m blank) named (captured m blank there)))
   where
     blank : Frame
     blank = record { rows = []; marks = [] }
@@ -199,4 +199,4 @@ block_has layout blocks frames k named captured =
 -- the law: each place of such frames that is seen has the byte of its block
 pub agree : CapturedFramesAgree
 agree layout blocks frames named captured k within =
-    subst (IsOf (blocks k)) (sym (assembled-at layout frames k unseen within)) (block_has layout blocks frames k named captured)
+    subst (IsTableOf (blocks k)) (sym (assembled-at layout frames k unseen within)) (block_has layout blocks frames k named captured)

@@ -4,7 +4,7 @@ use Rattle.std.specs.List.{Contains}
 use Rattle.dvd_layout.specs.Plan.{plan_of}
 use Rattle.dvd_layout.specs.declared.layout.Layout.{Layout}
 use Rattle.dvd_layout.specs.declared.layout.Zones.TheVariants.{DataOnly}
-use Rattle.dvd_merge.specs.Agreeing.{IsOf}
+use Rattle.dvd_merge.specs.Agreeing.{IsTableOf}
 use Rattle.dvd_merge.specs.Join.{unseen}
 use Rattle.dvd_assemble.specs.Assembled.{assembled, settled}
 use Rattle.dvd_assemble.specs.Frames.{Frame}
@@ -31,4 +31,4 @@ CapturedFramesComeHome =
 abbrev pub CapturedFramesAgree : Type 0
 CapturedFramesAgree =
     (layout : Layout) (blocks : ℕ → List (List ℕ)) (frames : List Frame) → AreNamed layout blocks → All (IsCaptured layout blocks) frames
-    → (k : ℕ) → k < length (plan_of layout DataOnly) → IsOf (blocks k) (slice_index_or (assembled layout frames) k unseen)
+    → (k : ℕ) → k < length (plan_of layout DataOnly) → IsTableOf (blocks k) (slice_index_or (assembled layout frames) k unseen)

@@ -21,10 +21,10 @@ use dvd_ports::{Failed, Source, read_whole};
 // The bytes of a recorded row, and of its mark bits.
 const ROW: usize = 182;
 
-const BITS: usize = 23;
+const MARK_BYTES: usize = 23;
 
 // The bytes of a frame in the form that has most. A buffer of this size serves both forms.
-const MOST: usize = 13 * (ROW + BITS);
+const MOST: usize = 13 * (ROW + MARK_BYTES);
 
 /// A captured recording frame: thirteen rows of 182 bytes, and 23 bytes of mark bits for each.
 #[derive(Clone, Copy, Debug, PartialEq, Eq)]

@@ -95,10 +95,10 @@ sized-most Marked sized = omega arith
 sized-most Listed sized = absurd (sized refl)
 
 -- no rule is broken in them
-sized-lawful : (form : Form) → HasSize form → (bytes : List ℕ) → BreaksNoRule form bytes
-sized-lawful Plain sized bytes = tt
-sized-lawful Marked sized bytes = tt
-sized-lawful Listed sized bytes = absurd (sized refl)
+sized-valid : (form : Form) → HasSize form → (bytes : List ℕ) → BreaksNoRule form bytes
+sized-valid Plain sized bytes = tt
+sized-valid Marked sized bytes = tt
+sized-valid Listed sized bytes = absurd (sized refl)
 
 -- and the marks are in the recorded rows
 sized-marks : (form : Form) → HasSize form → (bytes : List ℕ) (m : ℕ) → record_marks form bytes m ≡ marks_in form (record_of form bytes m)
@@ -114,7 +114,7 @@ unfolding captured_rows captured_marks
 all_fetched form sized old now rows marks count bytes height marks_height size all consumed put = record {
   bytes = bytes;
   size = size ∙ sym (sized-block form sized bytes);
-  lawful = sized-lawful form sized bytes;
+  valid = sized-valid form sized bytes;
   taken = subst (Consumes old now) (take_all count bytes (omega (arith, size))) consumed;
   rows_are =
       mapped (λ i. take 182 (record_of form bytes (record_at i))) rows 208 [] height

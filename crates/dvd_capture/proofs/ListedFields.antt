@@ -203,9 +203,9 @@ module _ (bytes own : List ℕ) (count n end : ℕ) (mark : ℕ → Bool) (has :
   IsFine start = (start < 37_856) × (0 < n → end < start)
 
   -- such a start breaks no rule
-  start-lawful : IsFine (field_at own 0) → BreaksStart (bytes ++ own) n → ⊥
-  start-lawful fine (inl high) = let is = start-is in let f = fine.0 in omega (arith, is, f, high)
-  start-lawful fine (inr (some, touching)) = let is = start-is in let f = fine.1 some in let e = end-same some in omega (arith, is, f, e, touching)
+  start-valid : IsFine (field_at own 0) → BreaksStart (bytes ++ own) n → ⊥
+  start-valid fine (inl high) = let is = start-is in let f = fine.0 in omega (arith, is, f, high)
+  start-valid fine (inr (some, touching)) = let is = start-is in let f = fine.1 some in let e = end-same some in omega (arith, is, f, e, touching)
 
   module _ (below : n < count) where
     -- a unit with a run n has more bytes, while fewer than four came after the runs before
@@ -226,7 +226,7 @@ module _ (bytes own : List ℕ) (count n end : ℕ) (mark : ℕ → Bool) (has :
 
     -- before the length of run n is whole, and with a start that breaks no rule, no field of it breaks one
     no-length : length own < 4 → IsFine (field_at own 0) → (offset : ℕ) → IsNext offset → ⊥
-    no-length few fine offset (inl (is, stands, breaks)) = start-lawful fine breaks
+    no-length few fine offset (inl (is, stands, breaks)) = start-valid fine breaks
     no-length few fine offset (inr (is, stands, breaks)) = omega arith
 
     -- or within its length
@@ -260,7 +260,7 @@ module _ (bytes own : List ℕ) (count n end : ℕ) (mark : ℕ → Bool) (has :
 
     -- where the start of run n breaks no rule, no field before its length does
     second-next : IsFine (field_at own 0) → (offset : ℕ) → IsNext offset → 37_860 + 4 * n ≤ offset
-    second-next fine offset (inl (is, stands, breaks)) = absurd (start-lawful fine breaks)
+    second-next fine offset (inl (is, stands, breaks)) = absurd (start-valid fine breaks)
     second-next fine offset (inr (is, stands, breaks)) = omega arith
 
     -- or its length does
@@ -272,14 +272,14 @@ module _ (bytes own : List ℕ) (count n end : ℕ) (mark : ℕ → Bool) (has :
     }
 
     -- a length of some places, all of them in the block, breaks no rule
-    length-lawful : 0 < field_at own 2 → field_at own 0 + field_at own 2 ≤ 37_856 → BreaksLength (bytes ++ own) n → ⊥
-    length-lawful some within (inl none) = let is = length-is in omega (arith, is, none, some)
-    length-lawful some within (inr past) = let is = length-is in let s = start-is in omega (arith, is, s, past, within)
+    length-valid : 0 < field_at own 2 → field_at own 0 + field_at own 2 ≤ 37_856 → BreaksLength (bytes ++ own) n → ⊥
+    length-valid some within (inl none) = let is = length-is in omega (arith, is, none, some)
+    length-valid some within (inr past) = let is = length-is in let s = start-is in omega (arith, is, s, past, within)
 
     -- where neither the start of run n nor its length breaks a rule, no field of the bytes does
     no-next : IsFine (field_at own 0) → 0 < field_at own 2 → field_at own 0 + field_at own 2 ≤ 37_856 → (offset : ℕ) → IsNext offset → ⊥
-    no-next fine some within offset (inl (is, stands, breaks)) = start-lawful fine breaks
-    no-next fine some within offset (inr (is, stands, breaks)) = length-lawful some within breaks
+    no-next fine some within offset (inl (is, stands, breaks)) = start-valid fine breaks
+    no-next fine some within offset (inr (is, stands, breaks)) = length-valid some within breaks
 
     -- it is one run more
     pub one-run-more : (mark_now : ℕ → Bool) → length own ≡ 4 → IsFine (field_at own 0) → 0 < field_at own 2 → field_at own 0 + field_at own 2 ≤ 37_856

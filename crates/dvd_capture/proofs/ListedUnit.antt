@@ -80,7 +80,7 @@ module _ (old mid new : Option (List ℕ)) (rows : List (List ℕ)) (marks marks
   unit-captured all = let runs = all.takes.runs in record {
     bytes = c.bytes ++ all.takes.own;
     size = runs.size ∙ ap (λ n. 37_858 + 4 * n) (sym runs.number);
-    lawful = runs.unbroken;
+    valid = runs.unbroken;
     taken = Consumes-then old mid new c.bytes all.takes.own c.taken all.takes.taken;
     rows_are = c.rows_are ∙ sym (rows-listed c.bytes all.takes.own c.size);
     marks_are = marks-listed marks_now (c.bytes ++ all.takes.own) all.count height width runs.number runs.marks;
@@ -105,7 +105,7 @@ module _ (old mid new : Option (List ℕ)) (rows : List (List ℕ)) (marks marks
           size = sym size;
           taken = Consumes-then old mid new c.bytes stop.own c.taken stop.taken;
           fewer = subst (λ n. n < listed_size (c.bytes ++ stop.own)) (sym size) cut.fewer;
-          lawful = cut.unbroken;
+          valid = cut.unbroken;
           at_end = at_end;
         },
       )
@@ -136,7 +136,7 @@ rows-ended old new count e = record {
   size = e.size;
   taken = e.taken;
   fewer = omega (arith, e.fewer);
-  lawful = early-unbroken e.bytes (omega (arith, e.fewer, e.size));
+  valid = early-unbroken e.bytes (omega (arith, e.fewer, e.size));
   at_end = e.at_end;
 }
 

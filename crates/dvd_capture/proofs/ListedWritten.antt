@@ -334,7 +334,7 @@ module _ (rows : List (List ℕ)) (height : length rows ≡ 208) (widths : (i : 
         → IsUnitOf rows marks (recording rows ++ own)
     unit-of own small count end runs = record {
       size = runs.size ∙ ap (λ n. 37_858 + 4 * n) (sym runs.number);
-      lawful = runs.unbroken;
+      valid = runs.unbroken;
       rows_are = rows-listed (recording rows) own recording_size ∙ recording_captured rows height wide;
       marks_are = sym (marks-listed marks (recording rows ++ own) count marks_height marks_widths runs.number runs.marks);
       fields = λ offset behind.

@@ -188,12 +188,12 @@ module _ (rows : List (List ℕ)) (marks : List (List Bool)) (unit : List ℕ) (
   run-some : (i : ℕ) → i < run_count unit → (((nat_le 1 (length_of unit i) ≡ true) × (1 ≤ length_of unit i)) ⊎ ((nat_le 1 (length_of unit i) ≡ false) × (length_of unit i < 1))) → start_of unit i < end_of unit i
   run-some i below (inl has) = let h = has.1 in omega (arith, h)
   run-some i below (inr none) = let n = none.1 in
-      absurd (is.lawful (37_860 + 4 * i) (stands i (37_860 + 4 * i) below (omega arith), inr (i, below, inr (refl, inl (omega (arith, n))))))
+      absurd (is.valid (37_860 + 4 * i) (stands i (37_860 + 4 * i) below (omega arith), inr (i, below, inr (refl, inl (omega (arith, n))))))
 
   -- each run ends within the block
   run-within : (i : ℕ) → i < run_count unit → (((nat_le (end_of unit i) 37_856 ≡ true) × (end_of unit i ≤ 37_856)) ⊎ ((nat_le (end_of unit i) 37_856 ≡ false) × (37_856 < end_of unit i))) → end_of unit i ≤ 37_856
   run-within i below (inl has) = has.1
-  run-within i below (inr past) = absurd (is.lawful (37_860 + 4 * i) (stands i (37_860 + 4 * i) below (omega arith), inr (i, below, inr (refl, inr past.1))))
+  run-within i below (inr past) = absurd (is.valid (37_860 + 4 * i) (stands i (37_860 + 4 * i) below (omega arith), inr (i, below, inr (refl, inr past.1))))
 
   -- and each run but the last ends below the start of the next
   run-apart : (i : ℕ) → suc i < run_count unit
@@ -202,7 +202,7 @@ module _ (rows : List (List ℕ)) (marks : List (List Bool)) (unit : List ℕ) (
   run-apart i below (inr apart) = apart.1
   run-apart i below (inl touching) =
       let before : suc i - 1 ≡ i = omega arith in
-      absurd (is.lawful (37_858 + 4 * suc i) (
+      absurd (is.valid (37_858 + 4 * suc i) (
         stands (suc i) (37_858 + 4 * suc i) below (omega arith),
         inr (suc i, below, inl (refl, inr (omega arith, subst (λ j. start_of unit (suc i) ≤ end_of unit j) (sym before) touching.1))),
       ))

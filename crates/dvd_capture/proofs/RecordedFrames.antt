@@ -31,34 +31,34 @@ part_line xs a n k below = get_or-take n (drop a xs) k [] below ∙ get_or-drop 
 module _ (records part before after : List (List ℕ)) (f : ℕ) (few : f < 16)
     (part_is : part ≡ take 13 (drop (13 * f) records))
   where
-  pub inner_more : ((k : ℕ) → k < 12 → line after (12 * f + k) ≡ line part k)
-      → ((i : ℕ) → i < 12 * f → line after i ≡ line before i)
-      → ((i : ℕ) → i < 12 * f → line before i ≡ line records (record_at i))
-      → (i : ℕ) → i < 12 * (f + 1) → line after i ≡ line records (record_at i)
-  inner_more put kept earlier i below = by_place (below_or i (12 * f)) where
-    by_place : (i < 12 * f) ⊎ (12 * f ≤ i) → line after i ≡ line records (record_at i)
-    by_place (inl less) = kept i less ∙ earlier i less
-    by_place (inr more) =
-        let k : ℕ = i - 12 * f in
-        let low : k < 12 = omega (arith, below, more) in
-        let here : 12 * f + k ≡ i = omega (arith, more) in
-        subst (λ (n : ℕ). line after n ≡ line records (record_at n)) here
-        (put k low ∙ ap (λ (l : List (List ℕ)). line l k) part_is
-        ∙ part_line records (13 * f) 13 k (omega (arith, low))
-        ∙ ap (line records) (sym (record_inner f k few low)))
+    pub inner_more : ((k : ℕ) → k < 12 → line after (12 * f + k) ≡ line part k)
+        → ((i : ℕ) → i < 12 * f → line after i ≡ line before i)
+        → ((i : ℕ) → i < 12 * f → line before i ≡ line records (record_at i))
+        → (i : ℕ) → i < 12 * (f + 1) → line after i ≡ line records (record_at i)
+    inner_more put kept earlier i below = by_place (below_or i (12 * f)) where
+      by_place : (i < 12 * f) ⊎ (12 * f ≤ i) → line after i ≡ line records (record_at i)
+      by_place (inl less) = kept i less ∙ earlier i less
+      by_place (inr more) =
+          let k : ℕ = i - 12 * f in
+          let low : k < 12 = omega (arith, below, more) in
+          let here : 12 * f + k ≡ i = omega (arith, more) in
+          subst (λ (n : ℕ). line after n ≡ line records (record_at n)) here
+          (put k low ∙ ap (λ (l : List (List ℕ)). line l k) part_is
+          ∙ part_line records (13 * f) 13 k (omega (arith, low))
+          ∙ ap (line records) (sym (record_inner f k few low)))
 
-  pub outer_more : line after (192 + f) ≡ line part 12
-      → ((i : ℕ) → 192 ≤ i → i < 192 + f → line after i ≡ line before i)
-      → ((i : ℕ) → 192 ≤ i → i < 192 + f → line before i ≡ line records (record_at i))
-      → (i : ℕ) → 192 ≤ i → i < 192 + (f + 1) → line after i ≡ line records (record_at i)
-  outer_more put kept earlier i from below = by_place (below_or i (192 + f)) where
-    by_place : (i < 192 + f) ⊎ (192 + f ≤ i) → line after i ≡ line records (record_at i)
-    by_place (inl less) = kept i from less ∙ earlier i from less
-    by_place (inr more) =
-        let here : 192 + f ≡ i = omega (arith, below, more) in
-        subst (λ (n : ℕ). line after n ≡ line records (record_at n)) here
-        (put ∙ ap (λ (l : List (List ℕ)). line l 12) part_is ∙ part_line records (13 * f) 13 12 (omega arith)
-        ∙ ap (line records) (sym (record_outer f few)))
+    pub outer_more : line after (192 + f) ≡ line part 12
+        → ((i : ℕ) → 192 ≤ i → i < 192 + f → line after i ≡ line before i)
+        → ((i : ℕ) → 192 ≤ i → i < 192 + f → line before i ≡ line records (record_at i))
+        → (i : ℕ) → 192 ≤ i → i < 192 + (f + 1) → line after i ≡ line records (record_at i)
+    outer_more put kept earlier i from below = by_place (below_or i (192 + f)) where
+      by_place : (i < 192 + f) ⊎ (192 + f ≤ i) → line after i ≡ line records (record_at i)
+      by_place (inl less) = kept i from less ∙ earlier i from less
+      by_place (inr more) =
+          let here : 192 + f ≡ i = omega (arith, below, more) in
+          subst (λ (n : ℕ). line after n ≡ line records (record_at n)) here
+          (put ∙ ap (λ (l : List (List ℕ)). line l 12) part_is ∙ part_line records (13 * f) 13 12 (omega arith)
+          ∙ ap (line records) (sym (record_outer f few)))
 
 -- all rows are put once sixteen frames are
 pub all_put : (records rows : List (List ℕ)) (f : ℕ) → 16 ≤ f

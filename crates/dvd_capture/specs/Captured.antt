@@ -66,7 +66,7 @@ captured_marks form bytes = map (λ i. record_marks form bytes (record_at i)) (r
 pub record Captures (form : Form) (old new : Option (List ℕ)) (rows : List (List ℕ)) (marks : List (List Bool)) : Type 0 where
   pub bytes : List ℕ
   pub size : length bytes ≡ unit_size form bytes
-  pub lawful : BreaksNoRule form bytes
+  pub valid : BreaksNoRule form bytes
   pub taken : Consumes old new bytes
   pub rows_are : rows ≡ captured_rows form bytes
   pub marks_are : marks ≡ captured_marks form bytes
@@ -77,7 +77,7 @@ pub record EndsAfter (form : Form) (old new : Option (List ℕ)) (count : ℕ) :
   pub size : length bytes ≡ count
   pub taken : Consumes old new bytes
   pub fewer : count < unit_size form bytes
-  pub lawful : BreaksNoRule form bytes
+  pub valid : BreaksNoRule form bytes
   pub at_end : IsAtEnd new
 
 -- a source lost fewer bytes than their block has
@@ -97,7 +97,7 @@ pub record BreaksAt (form : Form) (old new : Option (List ℕ)) (at : ℕ) : Typ
 -- one such unit.
 pub record IsUnitOf (rows : List (List ℕ)) (marks : List (List Bool)) (unit : List ℕ) : Type 0 where
   pub size : length unit ≡ listed_size unit
-  pub lawful : IsUnbroken unit
+  pub valid : IsUnbroken unit
   pub rows_are : captured_rows Listed unit ≡ rows
   pub marks_are : captured_marks Listed unit ≡ marks
   pub fields : (offset : ℕ) → 37_856 ≤ offset → slice_index unit offset < 256

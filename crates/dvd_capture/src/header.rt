@@ -54,7 +54,7 @@ impl Header {
 
     /// Reads 32 bytes, or answers the first byte that no header has there.
     pub fn from_bytes(bytes: &[u8; 32]) -> Result<Header, HeaderFault>
-        ensures lawful { IfOk result (λ header. IsHeader bytes.now) }
+        ensures valid { IfOk result (λ header. IsHeader bytes.now) }
         ensures fields { IfOk result (λ header. header_bytes header ≡ bytes.now) }
         ensures refused { (at : ℕ) → result ≡ Err (Place at) → IsFirstWrongByte bytes.now at }
     {

@@ -104,7 +104,7 @@ fn field(fields: &[u8], offset: usize) -> usize
 // would be a second spelling of the same marks.
 fn check_start(i: usize, start: usize, end: usize) -> Result<(), FetchAnswer>
     requires { i < 18_928 }
-    ensures lawful { OnOk result ((start < 37_856) × (0 < i → end < start)) }
+    ensures valid { OnOk result ((start < 37_856) × (0 < i → end < start)) }
     ensures breaks { IfErr result (λ answer. (answer ≡ BadMarks (37_858 + 4 * i)) × ((37_856 ≤ start) ⊎ ((0 < i) × (start ≤ end)))) }
 {
     if start >= PLACES || (i > 0 && start <= end) {
@@ -120,7 +120,7 @@ fn check_length(i: usize, start: usize, length: usize) -> Result<(), FetchAnswer
     requires i { i < 18_928 }
     requires start { start < 37_856 }
     requires length { length < 65_536 }
-    ensures lawful { OnOk result ((0 < length) × (start + length ≤ 37_856)) }
+    ensures valid { OnOk result ((0 < length) × (start + length ≤ 37_856)) }
     ensures breaks { IfErr result (λ answer. (answer ≡ BadMarks (37_860 + 4 * i)) × ((length ≡ 0) ⊎ (37_856 < start + length))) }
 {
     if length == 0 || start + length > PLACES {

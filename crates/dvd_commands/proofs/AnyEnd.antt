@@ -1,6 +1,6 @@
 -- What an output has however its loop ended, where every loop that no fault ended gives it.
 use Rattle.std.proofs.Common.{◌≡◌, ℕ, List, drop, subst, take}
-use Rattle.dvd_loop.specs.Laws.{AreTotal, IsFaultless, IsFrontOf}
+use Rattle.dvd_loop.specs.Laws.{AreTotal, IsFaultless, IsPrefixOf}
 use Rattle.dvd_loop.specs.Machine.{IsOutcome, Outcome, Units}
 use Rattle.dvd_loop.specs.declared.ends.LoopEnd.TheVariants.{ReadFault}
 use Rattle.dvd_loop.proofs.Faults.{ends_there, leave_fronts}
@@ -13,7 +13,7 @@ pub record AtAnyEnd (Gives : List ℕ → List ℕ → Type 0) (bytes : List ℕ
   pub received : a.end ≡ ReadFault → Gives a.taken a.out
   pub whole : List ℕ
   pub gives : Gives bytes whole
-  pub front : IsFrontOf a.out whole
+  pub front : IsPrefixOf a.out whole
 
 -- every loop has it, where each that no fault ended gives it
 pub at_any_end : (Gives : List ℕ → List ℕ → Type 0) (units : Units) → AreTotal units
@@ -33,5 +33,5 @@ at_any_end Gives units total law bytes a runs =
 
 -- a part of such an output is the front of that part of the whole
 pub part-begun : {Gives : List ℕ → List ℕ → Type 0} {bytes : List ℕ} {a : Outcome} (any : AtAnyEnd Gives bytes a) (n p : ℕ) (part : List ℕ)
-    → take n (drop p any.whole) ≡ part → IsFrontOf (take n (drop p a.out)) part
-part-begun {a = a} any n p part is = subst (IsFrontOf (take n (drop p a.out))) is (front-part n p a.out any.whole any.front)
+    → take n (drop p any.whole) ≡ part → IsPrefixOf (take n (drop p a.out)) part
+part-begun {a = a} any n p part is = subst (IsPrefixOf (take n (drop p a.out))) is (front-part n p a.out any.whole any.front)

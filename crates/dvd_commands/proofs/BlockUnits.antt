@@ -13,7 +13,7 @@ use Rattle.dvd_layout.specs.declared.entry.Content.TheVariants.{Zero, Reference,
 use Rattle.dvd_layout.specs.declared.layout.Layout.{Layout}
 use Rattle.dvd_layout.specs.declared.layout.Zones.{Zones}
 use Rattle.dvd_layout.proofs.InOrder.{plan_of-in_order}
-use Rattle.dvd_loop.specs.Laws.{IsFaultless, IsFrontOf, first}
+use Rattle.dvd_loop.specs.Laws.{IsFaultless, IsPrefixOf, first}
 use Rattle.dvd_loop.specs.Machine.{IsOutcome, Outcome, Step}
 use Rattle.dvd_loop.specs.UnitCommand.{written}
 use Rattle.dvd_loop.specs.declared.ends.LoopEnd.TheVariants.{Done}
@@ -35,7 +35,7 @@ length-part layout Reference image size = refl
 length-part layout Control image size = refl
 
 -- a part that comes after so many bytes
-pub part_there : (a n : ℕ) (before part out : List ℕ) → length before ≡ a → length part ≡ n → IsFrontOf (before ++ (part ++ [])) out
+pub part_there : (a n : ℕ) (before part out : List ℕ) → length before ≡ a → length part ≡ n → IsPrefixOf (before ++ (part ++ [])) out
     → take n (drop a out) ≡ part
 part_there a n before part out at size (left, is) =
     let own : length (part ++ []) ≡ n = ap length (append-nil part) ∙ size in
@@ -64,7 +64,7 @@ module _ (layout : Layout) (zones : Zones) (form : Form) (May : ℕ → List ℕ
     pub does : May k (block_bytes form bytes k) steps kind
     pub before : List ℕ
     pub size : length before ≡ 2048 * image_from entry.content
-    pub out : IsFrontOf (before ++ written steps) a.out
+    pub out : IsPrefixOf (before ++ written steps) a.out
 
   -- so in such a run a data block that is whole in the input is processed
   pub has_unit : (bytes : List ℕ) (a : Outcome) → IsOutcome (block_units layout zones form May) bytes a

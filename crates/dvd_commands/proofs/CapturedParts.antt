@@ -149,9 +149,9 @@ whole_size Listed bytes n whole = elim (broken_or_not bytes) [
 -- and bytes of that size that break no rule begin with a whole block
 pub size_whole : (form : Form) (bytes : List ℕ) → unit_size form bytes ≤ length bytes → BreaksNoRule form bytes
     → captured_part form bytes ≡ Whole (unit_size form bytes)
-size_whole Plain bytes le lawful = sized_enough 37_856 bytes le
-size_whole Marked bytes le lawful = sized_enough 42_640 bytes le
-size_whole Listed bytes le lawful = listed_sized bytes lawful ∙ sized_enough (listed_size bytes) bytes le
+size_whole Plain bytes le valid = sized_enough 37_856 bytes le
+size_whole Marked bytes le valid = sized_enough 42_640 bytes le
+size_whole Listed bytes le valid = listed_sized bytes valid ∙ sized_enough (listed_size bytes) bytes le
 
 -- a whole block has the bytes of the rows at least
 pub whole_enough : (form : Form) (own : List ℕ) → captured_part form own ≡ Whole (length own) → block_size form ≤ length own
@@ -161,9 +161,9 @@ whole_enough Listed own whole = let is = (whole_size Listed own (length own) who
 
 -- fewer bytes that break none are a part of it
 pub size_cut : (form : Form) (bytes : List ℕ) → length bytes < unit_size form bytes → BreaksNoRule form bytes → captured_part form bytes ≡ Cut
-size_cut Plain bytes fewer lawful = sized_fewer 37_856 bytes fewer
-size_cut Marked bytes fewer lawful = sized_fewer 42_640 bytes fewer
-size_cut Listed bytes fewer lawful = listed_sized bytes lawful ∙ sized_fewer (listed_size bytes) bytes fewer
+size_cut Plain bytes fewer valid = sized_fewer 37_856 bytes fewer
+size_cut Marked bytes fewer valid = sized_fewer 42_640 bytes fewer
+size_cut Listed bytes fewer valid = listed_sized bytes valid ∙ sized_fewer (listed_size bytes) bytes fewer
 
 -- what comes after a whole block doesn't change its size
 more_same : (form : Form) (own more : List ℕ) → unit_size form own ≤ length own → unit_size form (own ++ more) ≡ unit_size form own
@@ -172,16 +172,16 @@ more_same Marked own more enough = refl
 more_same Listed own more enough = let same = number_same own more (omega (arith, enough)) in omega (arith, same)
 
 -- a block that is valid is so with more after it
-lawful_on : (form : Form) (own more : List ℕ) → unit_size form own ≤ length own → BreaksNoRule form own → BreaksNoRule form (own ++ more)
-lawful_on Plain own more enough lawful = tt
-lawful_on Marked own more enough lawful = tt
-lawful_on Listed own more enough lawful = unbroken_on own more enough lawful
+valid_on : (form : Form) (own more : List ℕ) → unit_size form own ≤ length own → BreaksNoRule form own → BreaksNoRule form (own ++ more)
+valid_on Plain own more enough valid = tt
+valid_on Marked own more enough valid = tt
+valid_on Listed own more enough valid = unbroken_on own more enough valid
 
 -- and so are bytes with which valid ones begin
-lawful_back : (form : Form) (own more : List ℕ) → BreaksNoRule form (own ++ more) → BreaksNoRule form own
-lawful_back Plain own more lawful = tt
-lawful_back Marked own more lawful = tt
-lawful_back Listed own more lawful = unbroken_back own more lawful
+valid_back : (form : Form) (own more : List ℕ) → BreaksNoRule form (own ++ more) → BreaksNoRule form own
+valid_back Plain own more valid = tt
+valid_back Marked own more valid = tt
+valid_back Listed own more valid = unbroken_back own more valid
 
 -- STABLE. A whole block is whole whatever follows, and a broken one broken.
 pub whole_stays : (form : Form) (own more : List ℕ) → captured_part form own ≡ Whole (length own)
@@ -190,7 +190,7 @@ whole_stays form own more whole =
     let is = whole_size form own (length own) whole in
     let enough : unit_size form own ≤ length own = subst (λ n. n ≤ length own) is.0 (omega arith) in
     let same = more_same form own more enough in
-    size_whole form (own ++ more) (omega (arith, same, enough, length-append own more)) (lawful_on form own more enough is.2) ∙ ap Whole (same ∙ sym is.0)
+    size_whole form (own ++ more) (omega (arith, same, enough, length-append own more)) (valid_on form own more enough is.2) ∙ ap Whole (same ∙ sym is.0)
 
 -- and a broken one broken
 pub broken_stays : (form : Form) (at : ℕ) (own more : List ℕ) → captured_part form own ≡ Broken at
@@ -215,9 +215,9 @@ front_whole form bytes whole =
     let more = drop (unit_size form bytes) bytes in
     let size : length own ≡ unit_size form bytes = length-take-le (unit_size form bytes) bytes is.1 in
     let all : own ++ more ≡ bytes = take-append-drop (unit_size form bytes) bytes in
-    let lawful : BreaksNoRule form own = lawful_back form own more (subst (BreaksNoRule form) (sym all) is.2) in
+    let valid : BreaksNoRule form own = valid_back form own more (subst (BreaksNoRule form) (sym all) is.2) in
     let same : unit_size form own ≡ length own = front_size form own more (subst (λ l. unit_size form l ≡ length own) (sym all) (sym size)) in
-    (size, size_whole form own (omega (arith, same)) lawful ∙ ap Whole same)
+    (size, size_whole form own (omega (arith, same)) valid ∙ ap Whole same)
   where
     front_size : (form : Form) (own more : List ℕ) → unit_size form (own ++ more) ≡ length own → unit_size form own ≡ length own
     front_size Plain own more is = is
@@ -229,28 +229,28 @@ pub begins_somehow : (form : Form) (bytes : List ℕ)
     → ((own left : List ℕ) × (bytes ≡ own ++ left) × (captured_part form own ≡ Whole (length own)))
     ⊎ ((captured_part form bytes ≡ Cut)
     ⊎ ((own left : List ℕ) × (at : ℕ) × (bytes ≡ own ++ left) × (captured_part form own ≡ Broken at)))
-begins_somehow form bytes = by_lawful form bytes (lawful_or_not form bytes)
+begins_somehow form bytes = by_valid form bytes (valid_or_not form bytes)
   where
-    lawful_or_not : (form : Form) (bytes : List ℕ) → ((at : ℕ) × (captured_part form bytes ≡ Broken at)) ⊎ BreaksNoRule form bytes
-    lawful_or_not Plain bytes = inr tt
-    lawful_or_not Marked bytes = inr tt
-    lawful_or_not Listed bytes = elim (broken_or_not bytes) [
+    valid_or_not : (form : Form) (bytes : List ℕ) → ((at : ℕ) × (captured_part form bytes ≡ Broken at)) ⊎ BreaksNoRule form bytes
+    valid_or_not Plain bytes = inr tt
+    valid_or_not Marked bytes = inr tt
+    valid_or_not Listed bytes = elim (broken_or_not bytes) [
       | inl (at, broken) ↦ inl (at, listed_broken bytes at broken)
       | inr unbroken ↦ inr unbroken
     ]
 
-    by_lawful : (form : Form) (bytes : List ℕ) → ((at : ℕ) × (captured_part form bytes ≡ Broken at)) ⊎ BreaksNoRule form bytes
+    by_valid : (form : Form) (bytes : List ℕ) → ((at : ℕ) × (captured_part form bytes ≡ Broken at)) ⊎ BreaksNoRule form bytes
         → ((own left : List ℕ) × (bytes ≡ own ++ left) × (captured_part form own ≡ Whole (length own)))
         ⊎ ((captured_part form bytes ≡ Cut)
         ⊎ ((own left : List ℕ) × (at : ℕ) × (bytes ≡ own ++ left) × (captured_part form own ≡ Broken at)))
-    by_lawful form bytes (inl (at, broken)) = inr (inr (bytes, [], at, sym (append-nil bytes), broken))
-    by_lawful form bytes (inr lawful) = elim (cases_lt (length bytes) (unit_size form bytes)) [
-      | inl fewer ↦ inr (inl (size_cut form bytes fewer lawful))
+    by_valid form bytes (inl (at, broken)) = inr (inr (bytes, [], at, sym (append-nil bytes), broken))
+    by_valid form bytes (inr valid) = elim (cases_lt (length bytes) (unit_size form bytes)) [
+      | inl fewer ↦ inr (inl (size_cut form bytes fewer valid))
       | inr le ↦
           inl (
             take (unit_size form bytes) bytes,
             drop (unit_size form bytes) bytes,
             sym (take-append-drop (unit_size form bytes) bytes),
-            (front_whole form bytes (size_whole form bytes le lawful)).1,
+            (front_whole form bytes (size_whole form bytes le valid)).1,
           )
     ]

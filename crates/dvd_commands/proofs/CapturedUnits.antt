@@ -22,7 +22,7 @@ use Rattle.dvd_commands.proofs.CapturedParts.{listed_broken, size_cut, size_whol
 
 -- HOW BYTES BEGIN. As many bytes as their unit has, which break no rule, are that unit,
 pub captured_whole : (form : Form) (bytes : List ℕ) → length bytes ≡ unit_size form bytes → BreaksNoRule form bytes → captured_part form bytes ≡ Whole (length bytes)
-captured_whole form bytes size lawful = size_whole form bytes (omega (arith, size)) lawful ∙ ap Whole (sym size)
+captured_whole form bytes size valid = size_whole form bytes (omega (arith, size)) valid ∙ ap Whole (sym size)
 
 -- those that break a rule do so at their first field that does,
 pub captured_broken : (form : Form) (bytes : List ℕ) (at : ℕ) → form ≡ Listed → IsBrokenAt bytes at → captured_part form bytes ≡ Broken at
@@ -50,7 +50,7 @@ module _ (form : Form) (k : ℕ) (old new : Seen) where
     reads = ends.taken;
     told = none_left new.bytes ends.at_end;
     ends = subst (λ part. EndsWithin part k (length ends.bytes) [] (Short k count))
-        (sym (size_cut form ends.bytes (subst (λ n. n < unit_size form ends.bytes) (sym ends.size) ends.fewer) ends.lawful))
+        (sym (size_cut form ends.bytes (subst (λ n. n < unit_size form ends.bytes) (sym ends.size) ends.fewer) ends.valid))
         (inl (ap (Short k) (sym ends.size), refl));
   }
 
@@ -98,7 +98,7 @@ module _ (units : Units) (form : Form) (begins : (k : ℕ) (own : List ℕ) → 
   captured_done rows marks fetched causes new_output new_report answer done next =
       done_unit units before ready (streams source output report) (streams new_source output report) (streams new_source new_output new_report) fetched.bytes done.steps done.kind
       (record {
-        whole = begins (length before) fetched.bytes ∙ captured_whole form fetched.bytes fetched.size fetched.lawful;
+        whole = begins (length before) fetched.bytes ∙ captured_whole form fetched.bytes fetched.size fetched.valid;
         does = subst (λ j. units.does j before fetched.bytes done.steps done.kind) (sym number) done.may;
       })
       (record { reads = fetched.taken; writes = Appends-none output.bytes; tells = Appends-none report.bytes })

@@ -2,7 +2,7 @@
 pub mod AnyEnd
 pub mod BlockFrames
 pub mod BlockUnits
-pub mod BorneBlocks
+pub mod BlocksWithinBound
 pub mod BrokenFields
 pub mod CaptureEnds
 pub mod CapturedBlocks

@@ -5,7 +5,7 @@ use Rattle.std.proofs.Math.Nat.{mul-suc, mul-zero}
 use Rattle.std.proofs.Math.Seq.{take-add}
 use Rattle.std.proofs.lemmas.Bool.{cases_lt}
 use Rattle.dvd_capture.proofs.Fetching.{part-append, part-behind}
-use Rattle.dvd_loop.specs.Laws.{IsFrontOf}
+use Rattle.dvd_loop.specs.Laws.{IsPrefixOf}
 use Rattle.dvd_loop.proofs.Over.{start, start-le, start-suc, start-zero}
 
 -- one piece more
@@ -56,17 +56,17 @@ pieces-front size all (suc n) =
     ∙ ap (λ m. take m all) (sym (start-suc size n))
 
 -- the first elements of a list are the front of those of a longer one
-take-front : (n : ℕ) (xs ys : List ℕ) → IsFrontOf (take n xs) (take n (xs ++ ys))
+take-front : (n : ℕ) (xs ys : List ℕ) → IsPrefixOf (take n xs) (take n (xs ++ ys))
 take-front zero xs ys = ([], refl)
 take-front (suc n) [] ys = (take (suc n) ys, refl)
 take-front (suc n) (x ∷ xs) ys = let (left, is) = take-front n xs ys in (left, ap (λ l. x ∷ l) is)
 
 -- and so is a part further on
-part-longer : (n p : ℕ) (xs ys : List ℕ) → IsFrontOf (take n (drop p xs)) (take n (drop p (xs ++ ys)))
+part-longer : (n p : ℕ) (xs ys : List ℕ) → IsPrefixOf (take n (drop p xs)) (take n (drop p (xs ++ ys)))
 part-longer n zero xs ys = take-front n xs ys
 part-longer n (suc p) [] ys = take-front n [] (drop (suc p) ys)
 part-longer n (suc p) (x ∷ xs) ys = part-longer n p xs ys
 
 -- a part of the front of a list is the front of the part
-pub front-part : (n p : ℕ) (xs all : List ℕ) → IsFrontOf xs all → IsFrontOf (take n (drop p xs)) (take n (drop p all))
-front-part n p xs all (left, is) = subst (λ l. IsFrontOf (take n (drop p xs)) (take n (drop p l))) (sym is) (part-longer n p xs left)
+pub front-part : (n p : ℕ) (xs all : List ℕ) → IsPrefixOf xs all → IsPrefixOf (take n (drop p xs)) (take n (drop p all))
+front-part n p xs all (left, is) = subst (λ l. IsPrefixOf (take n (drop p xs)) (take n (drop p l))) (sym is) (part-longer n p xs left)

@@ -21,4 +21,4 @@ pub record RunFacts (command : Command) : Type 0 where
       → (command ≡ CdMake → HasAddresses settings) → Exists (GoesBy (meaning command) settings bytes)
   pub alike : (workers : ℕ) (settings : Settings) (bytes : List ℕ) (outcome : Outcome) → GoesBy (meaning command) settings bytes outcome
       → GoesBy (meaning command) (set_workers workers settings) bytes outcome
-  pub lawful : (settings : Settings) → broken_rule settings ≡ None → (meaning command).breaks settings ≡ None
+  pub valid : (settings : Settings) → broken_rule settings ≡ None → (meaning command).breaks settings ≡ None

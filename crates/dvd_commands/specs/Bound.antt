@@ -11,7 +11,7 @@ use Rattle.dvd_layout.specs.Plan.{plan_of}
 use Rattle.dvd_layout.specs.declared.entry.BlockPlan.{BlockPlan}
 use Rattle.dvd_layout.specs.declared.layout.Layout.{Layout}
 use Rattle.dvd_layout.specs.declared.layout.Zones.{Zones}
-use Rattle.dvd_loop.specs.Laws.{IsFaultless, IsFrontOf}
+use Rattle.dvd_loop.specs.Laws.{IsFaultless, IsPrefixOf}
 use Rattle.dvd_loop.specs.Machine.{Outcome, Step}
 use Rattle.dvd_loop.specs.Machine.Step.{Write}
 use Rattle.dvd_loop.specs.declared.ends.LoopEnd.TheVariants.{ReadFault}
@@ -48,7 +48,7 @@ pub record WasMastered (layout : Layout) (zones : Zones) (form : Form) (bytes cp
   pub is_block : IsBlockOf (frames_of layout entry cpr (filled_block (image_part layout entry image))) block
 
 -- It was mastered, and its damage is within the bound: twice the bad rows plus the lost rows is at most 16.
-pub record IsBorneBlock (layout : Layout) (zones : Zones) (form : Form) (bytes cpr image : List ℕ) (k : ℕ) (entry : BlockPlan) : Type 0 where
+pub record IsBlockWithinBound (layout : Layout) (zones : Zones) (form : Form) (bytes cpr image : List ℕ) (k : ℕ) (entry : BlockPlan) : Type 0 where
   pub mastered : WasMastered layout zones form bytes cpr image k entry
   pub within : IsWithin mastered.block (captured_rows form (block_bytes form bytes k)) (captured_marks form (block_bytes form bytes k))
 
@@ -62,7 +62,7 @@ pub record IsBeyond (layout : Layout) (zones : Zones) (form : Form) (bytes cpr i
 -- their place in the output.
 abbrev pub GivesBack : Layout → Settings → List ℕ → List ℕ → Type 0
 GivesBack layout settings bytes out =
-    (cpr image : List ℕ) (k : ℕ) (entry : BlockPlan) → IsBorneBlock layout settings.zones settings.form bytes cpr image k entry
+    (cpr image : List ℕ) (k : ℕ) (entry : BlockPlan) → IsBlockWithinBound layout settings.zones settings.form bytes cpr image k entry
     → image_part layout entry out ≡ image_part layout entry image
 
 -- The bound, whatever ended the run, for each block within it: without a fault those of the input are given back, and
@@ -73,9 +73,9 @@ pub record KeepsBound (settings : Settings) (bytes : List ℕ) (outcome : Outcom
   pub is_layout : IsLayoutOf settings layout
   pub at_place : IsFaultless outcome.end → GivesBack layout settings bytes outcome.out
   pub received : outcome.end ≡ ReadFault → GivesBack layout settings outcome.taken outcome.out
-  pub begun : (cpr image : List ℕ) (k : ℕ) (entry : BlockPlan) → IsBorneBlock layout settings.zones settings.form bytes cpr image k entry
-      → IsFrontOf (image_part layout entry outcome.out) (image_part layout entry image)
-  pub alone : (cpr image : List ℕ) (k : ℕ) (entry : BlockPlan) → IsBorneBlock layout settings.zones settings.form bytes cpr image k entry
+  pub begun : (cpr image : List ℕ) (k : ℕ) (entry : BlockPlan) → IsBlockWithinBound layout settings.zones settings.form bytes cpr image k entry
+      → IsPrefixOf (image_part layout entry outcome.out) (image_part layout entry image)
+  pub alone : (cpr image : List ℕ) (k : ℕ) (entry : BlockPlan) → IsBlockWithinBound layout settings.zones settings.form bytes cpr image k entry
       → (steps : List Step) (kind : UnitKind) → IsRescued settings.command layout settings.zones settings.form k (block_bytes settings.form bytes k) steps kind
       → (steps ≡ Write (image_part layout entry image) ∷ []) × (kind ≡ Good)
 
@@ -102,4 +102,4 @@ pub record KeepsGoodFrames (settings : Settings) (bytes : List ℕ) (outcome : O
   pub at_place : IsFaultless outcome.end → GivesGoodSectors layout settings bytes outcome.out
   pub received : outcome.end ≡ ReadFault → GivesGoodSectors layout settings outcome.taken outcome.out
   pub begun : (cpr image : List ℕ) (k f : ℕ) (entry : BlockPlan) → IsGoodSector layout settings bytes cpr image k f entry
-      → IsFrontOf (sector_part entry f outcome.out) (sector_part entry f image)
+      → IsPrefixOf (sector_part entry f outcome.out) (sector_part entry f image)

@@ -50,7 +50,7 @@ format_lines format =
 pub record GivesFormat (entry : BlockPlan) (rows : List (List ℕ)) (marks : List (List Bool)) (steps : List Step) (kind : UnitKind) : Type 0 where
   pub sectors : List (List ℕ)
   pub read : IsReadAs rows marks entry sectors
-  pub lawful : control_fault (line sectors 0) ≡ None
+  pub valid : control_fault (line sectors 0) ≡ None
   pub writes : steps ≡ Write (format_lines (fields_in (line sectors 0))) ∷ []
   pub last : kind ≡ Last
 

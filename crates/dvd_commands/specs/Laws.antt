@@ -19,7 +19,7 @@ use Rattle.dvd_layout.specs.declared.layout.Layout.{Layout}
 use Rattle.dvd_layout.specs.declared.layout.Shape.TheVariants.{Single}
 use Rattle.dvd_layout.specs.declared.layout.Zones.{Zones}
 use Rattle.dvd_layout.specs.declared.layout.Zones.TheVariants.{DataOnly}
-use Rattle.dvd_loop.specs.Laws.{IsFaultless, IsFrontOf, first}
+use Rattle.dvd_loop.specs.Laws.{IsFaultless, IsPrefixOf, first}
 use Rattle.dvd_loop.specs.Machine.{IsOutcome, Outcome, Step}
 use Rattle.dvd_loop.specs.Machine.Prefix.{Whole, Cut, Broken}
 use Rattle.dvd_loop.specs.Machine.Step.{Write}
@@ -27,7 +27,7 @@ use Rattle.dvd_loop.specs.UnitCommand.{written}
 use Rattle.dvd_loop.specs.declared.ends.LoopEnd.TheVariants.{BadMarks, Done, NoControl, Short}
 use Rattle.dvd_loop.specs.declared.ends.UnitKind.{UnitKind}
 use Rattle.dvd_loop.specs.declared.ends.UnitKind.TheVariants.{Good, Last}
-use Rattle.dvd_merge.specs.Agreeing.{IsOf}
+use Rattle.dvd_merge.specs.Agreeing.{IsTableOf}
 use Rattle.dvd_merge.specs.Join.{unseen}
 use Rattle.dvd_decoding.specs.Causes.{two_pass_cause}
 use Rattle.dvd_decoding.specs.declared.cause.Cause.{Cause}
@@ -115,7 +115,7 @@ pub record BreaksOff (initial : ℕ) (form : Form) (bytes : List ℕ) (a : Outco
   pub whole : HasBlocks form bytes k
   pub broken : captured_part form (from_block form bytes k) ≡ Broken at
   pub own : List ℕ
-  pub front : IsFrontOf own (from_block form bytes k)
+  pub front : IsPrefixOf own (from_block form bytes k)
   pub taken : captured_part form own ≡ Broken at
   pub is : a ≡ record { taken = take (block_start form bytes k) bytes ++ own; out = []; lines = []; end = BadMarks k at }
 
@@ -131,8 +131,8 @@ InfoFindsTheFirstAnswer =
     → FindsTheFirst initial form bytes a ⊎ FindsNone initial form bytes a
 
 -- A loop of `cdread` gives the user data of every sector whose damage is within the bound, whatever ended it.
-abbrev pub BorneSectorsAreKept : Type 0
-BorneSectorsAreKept =
+abbrev pub CorrectableSectorsAreKept : Type 0
+CorrectableSectorsAreKept =
     (settings : Settings) (bytes : List ℕ) (outcome : Outcome) → settings.command ≡ CdRead → GoesOver settings bytes outcome → KeepsSectors settings bytes outcome
 
 -- The blocks of the Data Zones as they were mastered, each of its part of an image.
@@ -148,7 +148,7 @@ CapturedFramesAreAssembled =
     (layout : Layout) (cpr : List ℕ) (parts : ℕ → List ℕ) (blocks : ℕ → List (List ℕ)) → AreMastered layout cpr parts blocks
     → ((k f : ℕ) (frame : Frame) → k < length (plan_of layout DataOnly) → f < 16 → IsCaptureOf f (blocks k) frame → home layout frame ≡ Some (16 * k + f))
     × ((frames : List Frame) → All (IsCaptured layout blocks) frames
-    → (k : ℕ) → k < length (plan_of layout DataOnly) → IsOf (blocks k) (slice_index_or (assembled layout frames) k unseen))
+    → (k : ℕ) → k < length (plan_of layout DataOnly) → IsTableOf (blocks k) (slice_index_or (assembled layout frames) k unseen))
 
 -- The offset that `broken_at` finds is the least field of a listed block that is wholly in the bytes and breaks a rule.
 -- It finds none exactly where none does.

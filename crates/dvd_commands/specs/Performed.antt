@@ -10,7 +10,7 @@ use Rattle.dvd_commands.specs.declared.refusal.Refusal.TheVariants.{Setting, NoM
 
 -- its layout is valid, and its loop had this end
 pub record HasLooped (settings : Settings) (old new : Streams) (end : LoopEnd) : Type 0 where
-  pub lawful : breaks settings ≡ None
+  pub valid : breaks settings ≡ None
   pub loop : HasEnded (Opens settings.form GoesOver settings) old new end
 
 -- why it doesn't begin: its layout breaks a rule, or there is no memory for its buffers
@@ -25,7 +25,7 @@ IsPerformed settings old new (Err refusal) = IsRefusal settings refusal
 
 -- Likewise for a command by its arguments alone, without a header.
 pub record HasGoneOver (settings : Settings) (old new : Streams) (end : LoopEnd) : Type 0 where
-  pub lawful : (meaning settings.command).breaks settings ≡ None
+  pub valid : (meaning settings.command).breaks settings ≡ None
   pub loop : HasEnded (GoesOver settings) old new end
 
 -- why it doesn't begin, by the rules of its command alone

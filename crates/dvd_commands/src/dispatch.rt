@@ -2,7 +2,7 @@
 ghost use Rattle.std.specs.Prelude.{◌≡◌, IsErr};
 ghost use Rattle.dvd_loop.specs.Streams.{streams};
 ghost use Rattle.dvd_commands.specs.Performed.{IsPerformed};
-ghost use Rattle.dvd_words.specs.Reading.{IsLawful};
+ghost use Rattle.dvd_words.specs.Reading.{IsValid};
 
 use crate::assemble::run_assemble;
 use crate::cd_make::cdmake_loop;
@@ -36,7 +36,7 @@ pub fn perform<R: Threads + Sync, S: Source, K: Sink, E: Sink, G: Gate>(
     out: &mut K,
     report: &mut E,
 ) -> Result<LoopEnd, Refusal>
-    requires { IsLawful settings.now }
+    requires { IsValid settings.now }
     ensures performed { IsPerformed settings.now
         (streams (S.seen src.old) (K.seen out.old) (E.seen report.old))
         (streams (S.seen src.new) (K.seen out.new) (E.seen report.new)) result }

@@ -1,5 +1,5 @@
 //! What holds of what each command does: each function's contract is one law, and its body is empty.
-ghost use Rattle.dvd_commands.specs.Laws.{ImageIsTakenInOrder, ImageIsTakenWhole, DamageWithinTheBoundIsRepaired, GoodFramesOfARefusedBlockAreGiven, DrawnFramesAreMastered, InfoFindsTheFirstAnswer, BorneSectorsAreKept, CapturedFramesAreAssembled, BrokenFieldIsFound};
+ghost use Rattle.dvd_commands.specs.Laws.{ImageIsTakenInOrder, ImageIsTakenWhole, DamageWithinTheBoundIsRepaired, GoodFramesOfARefusedBlockAreGiven, DrawnFramesAreMastered, InfoFindsTheFirstAnswer, CorrectableSectorsAreKept, CapturedFramesAreAssembled, BrokenFieldIsFound};
 
 /// The blocks before a data block read all bytes that the image has before its first sector.
 pub fn image_is_taken_in_order()
@@ -33,8 +33,8 @@ pub fn info_finds_the_first_answer()
 
 /// A loop of `cdread` gives back the user data of each CD-ROM sector whose damage is within the bound, whatever ended
 /// it.
-pub fn borne_sectors_are_kept()
-    ensures { BorneSectorsAreKept }
+pub fn correctable_sectors_are_kept()
+    ensures { CorrectableSectorsAreKept }
 {}
 
 /// Captured frames of mastered ones are put in order as they were mastered, without a conflict.

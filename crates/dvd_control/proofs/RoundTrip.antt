@@ -70,13 +70,13 @@ fields-read_back format =
     rw (version, rate, layers, path, kind, density, pitch, first, last, layer0_last, bca-back format.bca) refl
 
 -- what is written breaks no rule of control data
-pub written-lawful : (format : PhysicalFormat) → control_fault (format_bytes (fields_of format)) ≡ None
+pub written-valid : (format : PhysicalFormat) → control_fault (format_bytes (fields_of format)) ≡ None
 unfolding control_fault format_bytes
-written-lawful format =
+written-valid format =
     let first = number-back format.first (omega arith) in
     let last = number-back format.last (omega arith) in
     let layers = layers-few format.two_layers format.opposite format.kind format.small_kind in
     grind (arith, nat_tests)
 
 -- what is written of a physical format is read back, and breaks no rule
-pub ruleset written_laws = (fields-read_back, written-lawful)
+pub ruleset written_laws = (fields-read_back, written-valid)

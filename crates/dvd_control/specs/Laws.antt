@@ -11,8 +11,8 @@ use Rattle.dvd_control.specs.declared.format.PhysicalFormat.{PhysicalFormat}
 use Rattle.dvd_control.specs.Format.{HasLeadIn, control_fault, fields_for, fields_in, fields_of, format_bytes}
 
 -- a sector that is written breaks no rule
-abbrev pub WrittenFormatsAreLawful : Type 0
-WrittenFormatsAreLawful = (format : PhysicalFormat) → control_fault (format_bytes (fields_of format)) ≡ None
+abbrev pub WrittenFormatsAreValid : Type 0
+WrittenFormatsAreValid = (format : PhysicalFormat) → control_fault (format_bytes (fields_of format)) ≡ None
 
 -- what is written is read back
 abbrev pub WrittenFormatsAreReadBack : Type 0

@@ -143,7 +143,7 @@ impl PhysicalFormat {
     /// Reserved bits are passed over.
     pub fn from_bytes(bytes: &[u8; 2048]) -> Result<PhysicalFormat, ControlFault>
         ensures refused { IfErr result (λ fault. control_fault bytes.now ≡ Some fault) }
-        ensures lawful { IfOk result (λ format. control_fault bytes.now ≡ None) }
+        ensures valid { IfOk result (λ format. control_fault bytes.now ≡ None) }
         ensures fields { IfOk result (λ format. fields_of format ≡ fields_in bytes.now) }
     {
         if bytes[0] > 15 {

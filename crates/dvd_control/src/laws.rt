@@ -1,10 +1,10 @@
 //! What holds of every physical format. Each function's contract is a law of the definitions; the bodies are empty.
-ghost use Rattle.dvd_control.specs.Laws.{FormatNamesTheLastSector, WrittenFormatsAreLawful, WrittenFormatsAreReadBack};
+ghost use Rattle.dvd_control.specs.Laws.{FormatNamesTheLastSector, WrittenFormatsAreValid, WrittenFormatsAreReadBack};
 
 /// A sector that is written breaks no rule.
 #[tactic(auto, using(crate::proofs::RoundTrip::written_laws))]
-pub fn written_formats_are_lawful()
-    ensures { WrittenFormatsAreLawful }
+pub fn written_formats_are_valid()
+    ensures { WrittenFormatsAreValid }
 {}
 
 /// What is written is read back.

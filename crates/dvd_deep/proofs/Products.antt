@@ -15,11 +15,11 @@ use Rattle.coding.specs.Product.{IsProduct, column, line}
 use Rattle.dvd_block.proofs.Columns.{length-column}
 use Rattle.coding.specs.TwoPass.{from_columns}
 use Rattle.dvd_capture.proofs.Columns.{column-from_columns, from_columns-line, length-from_columns}
-use Rattle.dvd_deep.specs.Rounds.{State, after, are_answered, column_marks, column_near, column_step, deep_block, failed_marks, finishes, first_round, mark_in, round, row_near, row_step, state_in}
+use Rattle.dvd_deep.specs.Rounds.{State, after_rounds, are_answered, column_marks, column_near, column_step, deep_block, failed_marks, finishes, first_round, mark_in, round, row_near, row_step, state_in}
 use Rattle.dvd_deep.specs.Laws.{WhatIsFoundIsProduct}
 use Rattle.dvd_deep.proofs.ColumnStep.{column_then}
 use Rattle.dvd_deep.proofs.RowStep.{row_then}
-use Rattle.dvd_deep.proofs.Searches.{after-next, finishes-by}
+use Rattle.dvd_deep.proofs.Searches.{after_rounds-next, finishes-by}
 
 -- ---- tests of lists
 
@@ -156,18 +156,18 @@ found-in test a (suc n) t is = found-step test a t (find test (range_with_len (a
 -- the state before the round that gives a block back
 pub record IsLastRound (state : State) (block : List (List ℕ)) : Type 0 where
   pub rounds : ℕ
-  pub done : finishes (after rounds state) ≡ true
-  pub gives : (round (after rounds state)).rows ≡ block
+  pub done : finishes (after_rounds rounds state) ≡ true
+  pub gives : (round (after_rounds rounds state)).rows ≡ block
 
 -- where a round finishes with a block, the state before it is the last
-last-of : (state : State) (block : List (List ℕ)) (found : Option ℕ) → first_round state ≡ found → option_map (λ t. (after t state).rows) found ≡ Some block
+last-of : (state : State) (block : List (List ℕ)) (found : Option ℕ) → first_round state ≡ found → option_map (λ t. (after_rounds t state).rows) found ≡ Some block
     → IsLastRound state block
 unfolding first_round
 last-of state block None is gives = cc
 last-of state block (Some t) is gives =
-    let passes = found-in (λ t. finishes (after (t - 1) state)) 1 4 t is in
-    let rows_are : (after t state).rows ≡ block = cc in
-    record { rounds = t - 1; done = passes.1; gives = ap (λ (s : State). s.rows) (sym (after-next state t passes.0)) ∙ rows_are }
+    let passes = found-in (λ t. finishes (after_rounds (t - 1) state)) 1 4 t is in
+    let rows_are : (after_rounds t state).rows ≡ block = cc in
+    record { rounds = t - 1; done = passes.1; gives = ap (λ (s : State). s.rows) (sym (after_rounds-next state t passes.0)) ∙ rows_are }
 
 -- a block that rounds give back has such a state
 pub last_round : (received : List (List ℕ)) (marks : List (List Bool)) (block : List (List ℕ)) → deep_block received marks ≡ Some block
@@ -178,4 +178,4 @@ last_round received marks block is = last-of (state_in received marks) block (fi
 pub found_is_product : WhatIsFoundIsProduct
 found_is_product received marks block is =
     let last = last_round received marks block is in
-    subst IsProduct last.gives (finished-product (after last.rounds (state_in received marks)) last.done)
+    subst IsProduct last.gives (finished-product (after_rounds last.rounds (state_in received marks)) last.done)

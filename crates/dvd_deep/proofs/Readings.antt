@@ -12,7 +12,7 @@ use Rattle.dvd_decoding.specs.declared.cause.Cause.{Cause}
 use Rattle.dvd_read.proofs.BlockRead.{no_cause-read}
 use Rattle.dvd_read.proofs.Outcomes.{no_cause-agrees}
 use Rattle.dvd_deep.specs.Reading.{IsDeep, cause_by, deep_cause}
-use Rattle.dvd_deep.specs.Rounds.{after, deep_block, deep_round, state_in}
+use Rattle.dvd_deep.specs.Rounds.{after_rounds, deep_block, deep_round, state_in}
 use Rattle.dvd_deep.proofs.RoundOne.{two_pass_first}
 
 -- the cause, by the block that was found
@@ -31,7 +31,7 @@ cause-none received marks entry is = ap (cause_by received marks entry) is
 pub cause-unfound : (received : List (List ℕ)) (marks : List (List Bool)) (entry : BlockPlan) → deep_round received marks ≡ None
     → deep_cause received marks entry ≡ block_cause received marks entry
 cause-unfound received marks entry is =
-    cause-none received marks entry (ap (option_map (λ n. (after n (state_in received marks)).rows)) is)
+    cause-none received marks entry (ap (option_map (λ n. (after_rounds n (state_in received marks)).rows)) is)
 
 -- what is read by two passes is read by round 1
 pub read-deep : (received : List (List ℕ)) (marks : List (List Bool)) (entry : BlockPlan) (sectors : List (List ℕ)) → length received ≡ 208 → length marks ≡ 208
@@ -78,11 +78,11 @@ deep-refused received marks entry cause block height marks_height refused gives 
 some-by : (received : List (List ℕ)) (marks : List (List Bool)) (entry : BlockPlan) (found : Option ℕ) → length received ≡ 208 → length marks ≡ 208
     → deep_round received marks ≡ found → deep_cause received marks entry ≡ None → (t : ℕ) × (sectors : List (List ℕ)) × IsDeep received marks entry t sectors
 some-by received marks entry (Some t) height marks_height is none =
-    let block : List (List ℕ) = (after t (state_in received marks)).rows in
-    let gives : deep_block received marks ≡ Some block = ap (option_map (λ n. (after n (state_in received marks)).rows)) is in
+    let block : List (List ℕ) = (after_rounds t (state_in received marks)).rows in
+    let gives : deep_block received marks ≡ Some block = ap (option_map (λ n. (after_rounds n (state_in received marks)).rows)) is in
     (t, main_data block entry, record { block = block; first = is; gives = gives; right = sym (cause-found received marks entry block gives) ∙ none; main = refl })
 some-by received marks entry None height marks_height is none =
-    let gives : deep_block received marks ≡ None = ap (option_map (λ n. (after n (state_in received marks)).rows)) is in
+    let gives : deep_block received marks ≡ None = ap (option_map (λ n. (after_rounds n (state_in received marks)).rows)) is in
     let read = no_cause-read received marks entry height marks_height (sym (cause-none received marks entry gives) ∙ none) in
     (1, block_sectors received marks entry, read-deep received marks entry (block_sectors received marks entry) height marks_height read)
 

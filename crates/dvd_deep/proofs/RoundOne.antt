@@ -16,11 +16,11 @@ use Rattle.coding.specs.TwoPass.{IsTwoPass, answer_column, answers_of, byte_or_z
 use Rattle.dvd_capture.proofs.Columns.{from_columns-product, length-answer_column, length-answers_of}
 use Rattle.dvd_read.proofs.RowAnswers.{get_or-answers_of}
 use Rattle.dvd_deep.specs.Laws.{TwoPassIsRoundOne}
-use Rattle.dvd_deep.specs.Rounds.{State, after, are_answered, column_marks, column_near, failed_marks, finishes, first_round, round, row_near, row_step, state_in}
+use Rattle.dvd_deep.specs.Rounds.{State, after_rounds, are_answered, column_marks, column_near, failed_marks, finishes, first_round, round, row_near, row_step, state_in}
 use Rattle.dvd_deep.proofs.ColumnStep.{column_then}
 use Rattle.dvd_deep.proofs.RowStep.{row_then}
 use Rattle.dvd_deep.proofs.Products.{length-failed, round-rows, row_step-height, word-then, words_then}
-use Rattle.dvd_deep.proofs.Searches.{after-next, finishes-by, first-found, nothing-played}
+use Rattle.dvd_deep.proofs.Searches.{after_rounds-next, finishes-by, first-found, nothing-played}
 
 -- ---- the row step and the first pass
 
@@ -149,7 +149,7 @@ two_pass_first received marks block height marks_height agrees =
     first-found state 1 (omega arith) (omega arith) (λ k from below. absurd (omega arith))
     (ap finishes (sym (nothing-played state)) ∙ round-finishes received marks block height marks_height agrees) in (
       first,
-      ap (option_map (λ t. (after t state).rows)) first
-          ∙ ap (λ (s : State). Some s.rows) (after-next state 1 (omega arith) ∙ ap round (sym (nothing-played state)))
+      ap (option_map (λ t. (after_rounds t state).rows)) first
+          ∙ ap (λ (s : State). Some s.rows) (after_rounds-next state 1 (omega arith) ∙ ap round (sym (nothing-played state)))
           ∙ ap Some (round-gives received marks block height marks_height agrees),
     )

@@ -3,7 +3,7 @@ use Rattle.std.proofs.Common.{◌≡◌, ◌∙◌, ℕ, zero, suc, ◌+◌, ◌
 use Rattle.std.specs.List.{list_all, range_with_len}
 use Rattle.std.proofs.lemmas.Bool.{cases_eq}
 use Rattle.coding.specs.Nearest.{vanishes_at_all}
-use Rattle.dvd_deep.specs.Rounds.{State, after, are_answered, column_step, failed_marks, finishes, first_round, round, row_step}
+use Rattle.dvd_deep.specs.Rounds.{State, after_rounds, are_answered, column_step, failed_marks, finishes, first_round, round, row_step}
 
 -- the first number from a on that passes a test
 first_at : (test : ℕ → Bool) (a n k : ℕ) → a ≤ k → k < a + n → ((i : ℕ) → a ≤ i → i < k → test i ≡ false) → test k ≡ true → find test (range_with_len a n) ≡ Some k
@@ -26,35 +26,35 @@ first_none test a (suc n) none =
 
 -- no round before round t finishes
 abbrev pub NoneFinishesBefore : State → ℕ → Type 0
-NoneFinishesBefore state t = (k : ℕ) → 1 ≤ k → k < t → finishes (after (k - 1) state) ≡ false
+NoneFinishesBefore state t = (k : ℕ) → 1 ≤ k → k < t → finishes (after_rounds (k - 1) state) ≡ false
 
 -- where round t doesn't finish either, none before round t + 1 does
-pub none-next : (state : State) (t : ℕ) → 1 ≤ t → NoneFinishesBefore state t → finishes (after (t - 1) state) ≡ false → NoneFinishesBefore state (t + 1)
+pub none-next : (state : State) (t : ℕ) → 1 ≤ t → NoneFinishesBefore state t → finishes (after_rounds (t - 1) state) ≡ false → NoneFinishesBefore state (t + 1)
 none-next state t from before here k k_from below = elim (cases_eq k t) [
-  | inl same ↦ ap (λ n. finishes (after (n - 1) state)) same ∙ here
+  | inl same ↦ ap (λ n. finishes (after_rounds (n - 1) state)) same ∙ here
   | inr other ↦ before k k_from (omega arith)
 ]
 
 -- the first of four rounds that finishes is the round that is looked for
-pub first-found : (state : State) (t : ℕ) → 1 ≤ t → t ≤ 4 → NoneFinishesBefore state t → finishes (after (t - 1) state) ≡ true → first_round state ≡ Some t
+pub first-found : (state : State) (t : ℕ) → 1 ≤ t → t ≤ 4 → NoneFinishesBefore state t → finishes (after_rounds (t - 1) state) ≡ true → first_round state ≡ Some t
 unfolding first_round
-first-found state t from most before here = first_at (λ t. finishes (after (t - 1) state)) 1 4 t from (omega arith) before here
+first-found state t from most before here = first_at (λ t. finishes (after_rounds (t - 1) state)) 1 4 t from (omega arith) before here
 
 -- where none of the four finishes there is no such round
 pub none-found : (state : State) → NoneFinishesBefore state 5 → first_round state ≡ None
 unfolding first_round
-none-found state before = first_none (λ t. finishes (after (t - 1) state)) 1 4 (λ k from below. before k from (omega arith))
+none-found state before = first_none (λ t. finishes (after_rounds (t - 1) state)) 1 4 (λ k from below. before k from (omega arith))
 
 -- one round more
-pub after-next : (state : State) (t : ℕ) → 1 ≤ t → after t state ≡ round (after (t - 1) state)
-unfolding after
-after-next state t from =
+pub after_rounds-next : (state : State) (t : ℕ) → 1 ≤ t → after_rounds t state ≡ round (after_rounds (t - 1) state)
+unfolding after_rounds
+after_rounds-next state t from =
     let next : t ≡ suc (t - 1) = omega arith in
-    ap (λ n. after n state) next
+    ap (λ n. after_rounds n state) next
 
 -- no round is played yet
-pub nothing-played : (state : State) → state ≡ after 0 state
-unfolding after
+pub nothing-played : (state : State) → state ≡ after_rounds 0 state
+unfolding after_rounds
 nothing-played state = refl
 
 -- ---- the steps of a round

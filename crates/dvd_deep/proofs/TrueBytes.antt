@@ -15,7 +15,7 @@ use Rattle.dvd_capture.specs.Answers.{marks_line}
 use Rattle.dvd_capture.proofs.Bound.{marked-cost}
 use Rattle.dvd_capture.proofs.Columns.{from_columns-line, from_columns-product}
 use Rattle.dvd_deep.specs.Laws.{TrueBytesGiveTheBlock}
-use Rattle.dvd_deep.specs.Rounds.{State, after, are_answered, column_marks, column_near, column_step, failed_marks, finishes, mark_in, round, row_near, row_step, state_in}
+use Rattle.dvd_deep.specs.Rounds.{State, after_rounds, are_answered, column_marks, column_near, column_step, failed_marks, finishes, mark_in, round, row_near, row_step, state_in}
 use Rattle.dvd_deep.specs.Inner.Steps.{AreWide}
 use Rattle.dvd_deep.proofs.ColumnStep.{column_then, mark_then}
 use Rattle.dvd_deep.proofs.RowStep.{marks_then}
@@ -177,10 +177,10 @@ round-true block state product are = record {
   words = words_then (failed_marks state) (row_step state)
 
 -- so does any number of rounds
-after-true : (block : List (List ℕ)) (state : State) (n : ℕ) → IsProduct block → IsTrueTo block state → IsTrueTo block (after n state)
-unfolding after
-after-true block state zero product are = are
-after-true block state (suc n) product are = round-true block (after n state) product (after-true block state n product are)
+after_rounds-true : (block : List (List ℕ)) (state : State) (n : ℕ) → IsProduct block → IsTrueTo block state → IsTrueTo block (after_rounds n state)
+unfolding after_rounds
+after_rounds-true block state zero product are = are
+after_rounds-true block state (suc n) product are = round-true block (after_rounds n state) product (after_rounds-true block state n product are)
 
 -- ---- the block that is given back
 
@@ -210,4 +210,4 @@ true_block_given received marks true_block block sizes product agree is =
       bytes = λ i j below inside clear. sym (agree i below j (omega (arith, sizes.marks_widths i [] (omega (arith, sizes.marks_height)))) clear);
     } in
     let last = last_round received marks block is in
-    sym last.gives ∙ round-given true_block (after last.rounds (state_in received marks)) product (after-true true_block (state_in received marks) last.rounds product first) last.done
+    sym last.gives ∙ round-given true_block (after_rounds last.rounds (state_in received marks)) product (after_rounds-true true_block (state_in received marks) last.rounds product first) last.done

@@ -66,13 +66,13 @@ unfoldable pub finishes : State → Bool
 finishes state = are_answered (failed_marks state) (row_step state) && list_all (vanishes_at_all 10) (round state).rows
 
 -- the state that n rounds leave
-unfoldable pub after : ℕ → State → State
-after zero state = state
-after (suc n) state = round (after n state)
+unfoldable pub after_rounds : ℕ → State → State
+after_rounds zero state = state
+after_rounds (suc n) state = round (after_rounds n state)
 
 -- the number of the first of four rounds that finishes, if one does
 unfoldable pub first_round : State → Option ℕ
-first_round state = find (λ t. finishes (after (t - 1) state)) (range_with_len 1 4)
+first_round state = find (λ t. finishes (after_rounds (t - 1) state)) (range_with_len 1 4)
 
 -- the number of the round that gives back a received block, if one does
 abbrev pub deep_round : List (List ℕ) → List (List Bool) → Option ℕ
@@ -80,4 +80,4 @@ deep_round received marks = first_round (state_in received marks)
 
 -- the block that it gives back: the rows that this round leaves
 abbrev pub deep_block : List (List ℕ) → List (List Bool) → Option (List (List ℕ))
-deep_block received marks = option_map (λ t. (after t (state_in received marks)).rows) (deep_round received marks)
+deep_block received marks = option_map (λ t. (after_rounds t (state_in received marks)).rows) (deep_round received marks)

@@ -8,7 +8,7 @@ ghost use Rattle.dvd_capture.specs.Parts.{marks_of_row};
 ghost use Rattle.dvd_capture.specs.Rule.{HasBlock};
 ghost use Rattle.dvd_capture.specs.Works.{marks_of_work, rows_of, stage_of};
 ghost use Rattle.dvd_deep.specs.Inner.Buffers.{buffered_state, marks_of_rows};
-ghost use Rattle.dvd_deep.specs.Rounds.{after, are_answered, column_marks, column_near, column_step, failed_marks, finishes, first_round, mark_in, round, row_near, row_step, state_in};
+ghost use Rattle.dvd_deep.specs.Rounds.{after_rounds, are_answered, column_marks, column_near, column_step, failed_marks, finishes, first_round, mark_in, round, row_near, row_step, state_in};
 ghost use Rattle.dvd_deep.specs.Inner.Steps.{AreMarksTaken, AreWide, IsColumnPut, TellsMarked, mark_left};
 
 use dvd_capture::{RowMarks, Work};
@@ -40,7 +40,7 @@ pub(crate) fn read_block(work: &Work, rows: &mut Rows, marks: &mut Marks)
 /// leaves.
 pub(crate) fn play_rounds(rows: &mut Rows, marks: &mut Marks) -> Option<u8>
     ensures first { result ≡ first_round (buffered_state rows.old marks.old) }
-    ensures state { IfSome result (λ t. buffered_state rows.new marks.new ≡ after t (buffered_state rows.old marks.old)) }
+    ensures state { IfSome result (λ t. buffered_state rows.new marks.new ≡ after_rounds t (buffered_state rows.old marks.old)) }
 {
     for t in 1..=MOST_ROUNDS {
         if play_round(rows, marks) {

@@ -21,7 +21,7 @@ const LAST_END: u64 = 0x80_0000;
 /// Checks that an Initial Zone may have `initial` ECC blocks, or returns the rule that it breaks.
 pub fn check_initial(initial: u32) -> Result<(), LayoutFault>
     ensures refused { IfErr result (λ fault. initial_fault initial ≡ Some fault) }
-    ensures lawful { IsOk result → initial_fault initial ≡ None }
+    ensures valid { IsOk result → initial_fault initial ≡ None }
 {
     if initial > MAX_INITIAL {
         return Err(LayoutFault::InitialTooLong { blocks: initial });
@@ -131,7 +131,7 @@ impl Layout {
         tail: u32,
     ) -> Result<Layout, LayoutFault>
         ensures refused { IfErr result (λ fault. first_fault shape sectors0 sectors1 initial tail ≡ Some fault) }
-        ensures lawful { IfOk result (λ layout. first_fault shape sectors0 sectors1 initial tail ≡ None) }
+        ensures valid { IfOk result (λ layout. first_fault shape sectors0 sectors1 initial tail ≡ None) }
         ensures shape { IfOk result (λ layout. layout.shape ≡ shape) }
         ensures sectors0 { IfOk result (λ layout. layout.sectors0 ≡ sectors0) }
         ensures sectors1 { IfOk result (λ layout. layout.sectors1 ≡ sectors1) }

@@ -2,7 +2,7 @@
 use Rattle.std.proofs.Common.{◌≡◌, ◌≢◌, inl, inr, ℕ, zero, suc, ◌+◌, ◌*◌, ◌<◌, ◌≤◌, List, [], ◌∷◌, ◌++◌, length, get_or, take, drop, refl, ap, sym, subst, ◌∙◌, append_assoc, append-nil, add-one, length-append, arith}
 use Rattle.std.proofs.Math.Nat.{mul-le-mul_left, mul-suc, mul-zero}
 use Rattle.std.proofs.lemmas.List.{drop-drop, length-drop, length-take-le, take-append-drop}
-use Rattle.dvd_loop.specs.Laws.{IsFaultless, IsFrontOf, IsNever, first}
+use Rattle.dvd_loop.specs.Laws.{IsFaultless, IsPrefixOf, IsNever, first}
 use Rattle.dvd_loop.specs.Machine.{Performs, Continues, ContinuesAfter, IsOutcome, IsUnit, IsEndedWithin, Outcome, Step, Units, bad_of, ended, sized, taking}
 use Rattle.dvd_loop.specs.Machine.Prefix.{Whole, Cut, Broken}
 use Rattle.dvd_loop.specs.UnitCommand.{told, written}
@@ -32,8 +32,8 @@ pub record TakesUnit (units : Units) (own : ℕ → List ℕ) (bytes : List ℕ)
   pub runs : IsOutcome (first k units) bytes alone
   pub ends : alone.end ≡ Done
   pub runs_on : IsOutcome (first (k + 1) units) bytes (record alone { taken = alone.taken ++ own k; out = alone.out ++ written steps; lines = alone.lines ++ told steps })
-  pub out : IsFrontOf (alone.out ++ written steps) a.out
-  pub lines : IsFrontOf (alone.lines ++ told steps) a.lines
+  pub out : IsPrefixOf (alone.out ++ written steps) a.out
+  pub lines : IsPrefixOf (alone.lines ++ told steps) a.lines
 
 -- an outcome with one unit more after it
 abbrev and_unit : List ℕ → List Step → Outcome → Outcome
@@ -56,8 +56,8 @@ each_later k own more parts is each zero lt = is
 each_later k own more parts is each (suc j) lt = each j (omega arith)
 
 -- a front of what comes after a piece is, after that piece, a front of all
-front_later : (own front more whole all : List ℕ) → all ≡ own ++ whole → IsFrontOf (front ++ more) whole
-    → IsFrontOf ((own ++ front) ++ more) all
+front_later : (own front more whole all : List ℕ) → all ≡ own ++ whole → IsPrefixOf (front ++ more) whole
+    → IsPrefixOf ((own ++ front) ++ more) all
 front_later own front more whole all is (left, so) = (left, is ∙ ap (λ l. own ++ l) so ∙ simp append_assoc)
 
 module _ (units : Units) (never : IsNever units Last)
@@ -145,8 +145,8 @@ module _ (units : Units) (never : IsNever units Last)
     runs : (count : ℕ) → Continues (first count units) k before bad bytes alone
     ends : alone.end ≡ Done
     runs_on : (count : ℕ) → Continues (first count units) (suc k) before bad bytes (and_unit (own k) steps alone)
-    out : IsFrontOf (alone.out ++ written steps) a.out
-    lines : IsFrontOf (alone.lines ++ told steps) a.lines
+    out : IsPrefixOf (alone.out ++ written steps) a.out
+    lines : IsPrefixOf (alone.lines ++ told steps) a.lines
 
   -- the unit at hand
   reaches_one : (own : ℕ → List ℕ) (n : ℕ) (before : List (List ℕ)) (bad : ℕ) (left : List ℕ) (a : Outcome)

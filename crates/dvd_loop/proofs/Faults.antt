@@ -1,6 +1,6 @@
 -- What a fault leaves: after a failed read, what the end of the input there would leave; after any fault, prefixes.
 use Rattle.std.proofs.Common.{◌≡◌, inl, inr, ℕ, zero, suc, ◌+◌, List, [], ◌∷◌, ◌++◌, length, refl, ap, sym, subst, ◌∙◌, append_assoc, append-nil, arith}
-use Rattle.dvd_loop.specs.Laws.{AreTotal, FaultsLeaveFronts, IsFaultless, IsFrontOf, ReadFaultEndsInput}
+use Rattle.dvd_loop.specs.Laws.{AreTotal, FaultsLeaveFronts, IsFaultless, IsPrefixOf, ReadFaultEndsInput}
 use Rattle.dvd_loop.specs.Machine.{Performs, EndsAfterLast, EndsWithin, Fails, Continues, ContinuesAfter, IsEndedWithin, Outcome, Prefix, Step, Units, bad_of, end_by, ended, stepping, taking}
 use Rattle.dvd_loop.specs.Machine.Prefix.{Whole, Cut, Broken}
 use Rattle.dvd_loop.specs.Machine.Step.{Write, Tell}
@@ -146,8 +146,8 @@ pub record Beyond (A : Outcome → Type 0) (a : Outcome) : Type 0 where
   pub outcome : Outcome
   pub holds : A outcome
   pub faultless : IsFaultless outcome.end
-  pub out : IsFrontOf a.out outcome.out
-  pub lines : IsFrontOf a.lines outcome.lines
+  pub out : IsPrefixOf a.out outcome.out
+  pub lines : IsPrefixOf a.lines outcome.lines
 
 -- each outcome has its fronts of one without a fault
 abbrev LeaveFronts : (Outcome → Type 0) → Type 0
@@ -168,11 +168,11 @@ beyond_none A a (outcome, holds, none) out lines = record {
 }
 
 -- a front, with the same bytes before both, is a front still
-front_longer : (own front whole : List ℕ) → IsFrontOf front whole → IsFrontOf (own ++ front) (own ++ whole)
+front_longer : (own front whole : List ℕ) → IsPrefixOf front whole → IsPrefixOf (own ++ front) (own ++ whole)
 front_longer own front whole (left, is) = (left, ap (λ l. own ++ l) is ∙ sym (append_assoc own front left))
 
 -- what was done of a step that failed, with nothing after it
-front_cut : (own front left more : List ℕ) → own ≡ front ++ left → IsFrontOf (front ++ []) (own ++ more)
+front_cut : (own front left more : List ℕ) → own ≡ front ++ left → IsPrefixOf (front ++ []) (own ++ more)
 front_cut own front left more is = (left ++ more, ap (λ l. l ++ more) is ∙ append_assoc front left more ∙ ap (λ l. l ++ (left ++ more)) (sym (append-nil front)))
 
 -- the step was taken, and then what came after

@@ -56,14 +56,14 @@ ReadFaultEndsInput units =
     → (b : Outcome) × IsOutcome units a.taken b × IsFaultless b.end × (b.taken ≡ a.taken) × (b.out ≡ a.out) × (b.lines ≡ a.lines)
 
 -- one list is a prefix of the other
-abbrev pub IsFrontOf : List ℕ → List ℕ → Type 0
-IsFrontOf front whole = (left : List ℕ) × (whole ≡ front ++ left)
+abbrev pub IsPrefixOf : List ℕ → List ℕ → Type 0
+IsPrefixOf front whole = (left : List ℕ) × (whole ≡ front ++ left)
 
 -- After any fault the output and the report have a prefix of what they would have without it.
 abbrev pub FaultsLeaveFronts : Units → Type 0
 FaultsLeaveFronts units =
     AreTotal units → (bytes : List ℕ) (a : Outcome) → IsOutcome units bytes a
-    → (b : Outcome) × IsOutcome units bytes b × IsFaultless b.end × IsFrontOf a.out b.out × IsFrontOf a.lines b.lines
+    → (b : Outcome) × IsOutcome units bytes b × IsFaultless b.end × IsPrefixOf a.out b.out × IsPrefixOf a.lines b.lines
 
 -- the first k units alone, and nothing after them
 abbrev pub first : ℕ → Units → Units

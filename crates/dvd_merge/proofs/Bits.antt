@@ -6,7 +6,7 @@ use Rattle.std.proofs.lemmas.List.{drop-append-le, drop-map, ext_get_or, get_or-
 use Rattle.std.proofs.lemmas.Simd.{bitmask_splat, length-zip2, pick_l-range_with_len, pick_l_left}
 use Rattle.dvd_merge.specs.Join.{byte_of, joined_mark}
 use Rattle.dvd_merge.specs.MarkedText.{mark_byte, number_of_marks}
-use Rattle.dvd_merge.specs.Planes.{place_of, row_of}
+use Rattle.dvd_merge.specs.Planes.{place_from, row_of}
 use Rattle.dvd_merge.specs.Inner.Rows.{at_place, is_unknown}
 use Rattle.dvd_merge.specs.declared.place.Place.TheVariants.{Unseen}
 use Rattle.dvd_merge.proofs.PlaceLanes.{place-unknown}
@@ -117,7 +117,7 @@ marks-codes values codes in_values in_codes =
     ∙ sym (get_or-map joined_mark (row_of values codes) k Unseen false (omega (arith, long, below))))
   where
     long : length (row_of values codes) ≡ 182
-    long = length-zip2 place_of values codes (in_values ∙ sym in_codes) ∙ in_values
+    long = length-zip2 place_from values codes (in_values ∙ sym in_codes) ∙ in_values
 
 -- the bytes of 32 places more
 pub bytes-more : (values codes bytes new_bytes lanes lv lc : List ℕ) (done at : ℕ) → at ≤ done → (at < done → at ≡ 150)
@@ -138,7 +138,7 @@ bytes-more values codes bytes new_bytes lanes lv lc done at from last before loa
     here : (k : ℕ) → k < 32 → at + k ≡ q → get_or new_bytes q 0 ≡ byte_of (at_place values codes q)
     here k few whole =
         subst (λ m. get_or new_bytes m 0 ≡ byte_of (at_place values codes m)) whole
-        (set k few ∙ each k few ∙ (λ i. byte_of (place_of (load_v k few i) (load_c k few i))))
+        (set k few ∙ each k few ∙ (λ i. byte_of (place_from (load_v k few i) (load_c k few i))))
 
 -- all bytes of a row
 pub bytes-all : (values codes bytes : List ℕ) → length values ≡ 182 → length codes ≡ 182 → length bytes ≡ 182
@@ -150,4 +150,4 @@ bytes-all values codes bytes in_values in_codes in_bytes each =
     ∙ sym (get_or-map byte_of (row_of values codes) q Unseen 0 (omega (arith, long, below))))
   where
     long : length (row_of values codes) ≡ 182
-    long = length-zip2 place_of values codes (in_values ∙ sym in_codes) ∙ in_values
+    long = length-zip2 place_from values codes (in_values ∙ sym in_codes) ∙ in_values

@@ -6,7 +6,7 @@ use Rattle.std.proofs.lemmas.List.Elements.{All-append}
 use Rattle.coding.specs.Words.{cost}
 use Rattle.coding.specs.Product.{line, place}
 use Rattle.dvd_capture.specs.Answers.{marks_line}
-use Rattle.dvd_merge.specs.Agreeing.{IsOf}
+use Rattle.dvd_merge.specs.Agreeing.{IsTableOf}
 use Rattle.dvd_merge.specs.Join.{Table, byte_of, join, join_rows, join_tables, joined, joined_marks, joined_rows, joined_mark, known_at, known_row, seen, seen_row, seen_table, unseen}
 use Rattle.dvd_merge.specs.declared.place.Place.{Place}
 use Rattle.dvd_merge.specs.declared.place.Place.TheVariants.{Unseen, Value}
@@ -36,12 +36,12 @@ unseen_place (suc n) zero = refl
 unseen_place (suc n) (suc j) = unseen_place n j
 
 -- a table in which nothing is seen is of every block
-pub is_of-unseen : (block : List (List ℕ)) → IsOf block unseen
+pub is_of-unseen : (block : List (List ℕ)) → IsTableOf block unseen
 unfolding unseen
 is_of-unseen block i j = inl (same_row 208 i (replicate 182 Unseen) (unseen_place 182) j)
 
 -- the join of two tables of a block is of that block
-is_of-join : (block : List (List ℕ)) (a b : Table) → IsOf block a → IsOf block b → IsOf block (join_tables a b)
+is_of-join : (block : List (List ℕ)) (a b : Table) → IsTableOf block a → IsTableOf block b → IsTableOf block (join_tables a b)
 is_of-join block a b of_a of_b i j = from (place-join (known_row a i) (known_row b i) j)
   where
     here : known_at (join_tables a b) i j ≡ get_or (join_rows (known_row a i) (known_row b i)) j Unseen
@@ -53,8 +53,8 @@ is_of-join block a b of_a of_b i j = from (place-join (known_row a i) (known_row
     from (inr is) = subst (Has (place block i j)) (sym (here ∙ is)) (has-join (place block i j) (known_at a i j) (known_at b i j) (of_a i j) (of_b i j))
 
 -- captures that received the bytes of the block alone have such a join
-pub is_of-fold : (block : List (List ℕ)) (start : Table) (tables : List Table) → IsOf block start
-    → ((k : ℕ) (d : Table) → k < length tables → IsOf block (get_or tables k d)) → IsOf block (fold join_tables start tables)
+pub is_of-fold : (block : List (List ℕ)) (start : Table) (tables : List Table) → IsTableOf block start
+    → ((k : ℕ) (d : Table) → k < length tables → IsTableOf block (get_or tables k d)) → IsTableOf block (fold join_tables start tables)
 is_of-fold block start [] of_start each = of_start
 is_of-fold block start (table ∷ tables) of_start each =
     is_of-fold block (join_tables start table) tables (is_of-join block start table of_start (each 0 table (omega arith)))
@@ -129,7 +129,7 @@ pub marks-row : (table : Table) (i : ℕ) → marks_line (joined_marks table) i 
 unfolding joined_marks
 marks-row = line-map joined_mark
 
-module _ (block rows : List (List ℕ)) (marks : List (List Bool)) (others : Table) (of_block : IsOf block others) (i : ℕ) where
+module _ (block rows : List (List ℕ)) (marks : List (List Bool)) (others : Table) (of_block : IsTableOf block others) (i : ℕ) where
   -- row i of the one capture, joined with row i of the other captures
   abbrev one : List Place
   one = join_rows (seen_row (line rows i) (marks_line marks i)) (known_row others i)
@@ -150,13 +150,13 @@ module _ (block rows : List (List ℕ)) (marks : List (List Bool)) (others : Tab
 
 -- each row of the join of all captures
 pub cost_bound : (block rows : List (List ℕ)) (marks : List (List Bool)) (before after : List Table)
-    → All (IsOf block) before → All (IsOf block) after → (i : ℕ)
+    → All (IsTableOf block) before → All (IsTableOf block) after → (i : ℕ)
     → cost (line block i) (line (joined_rows (joined (before ++ seen_table rows marks ∷ after))) i)
     (marks_line (joined_marks (joined (before ++ seen_table rows marks ∷ after))) i)
     ≤ cost (line block i) (line rows i) (marks_line marks i)
 unfolding joined
 cost_bound block rows marks before after of_before of_after i =
     joined_bound block rows marks (fold join_tables unseen (before ++ after))
-    (is_of-fold block unseen (before ++ after) (is_of-unseen block) (All-append (IsOf block) before after of_before of_after)) i
+    (is_of-fold block unseen (before ++ after) (is_of-unseen block) (All-append (IsTableOf block) before after of_before of_after)) i
     (joined (before ++ seen_table rows marks ∷ after))
     (fold_middle join_tables tables-comm tables-assoc tables-idem unseen (seen_table rows marks) before after)

@@ -7,7 +7,7 @@ use Rattle.std.proofs.lemmas.Simd.{get_or-zip2, length-zip2}
 use Rattle.coding.specs.Product.{line}
 use Rattle.dvd_capture.specs.Answers.{marks_line}
 use Rattle.dvd_merge.specs.Join.{Table, join, join_rows, join_tables, known_row, seen, seen_row, seen_table}
-use Rattle.dvd_merge.specs.MarkedText.{number_of_marks, with_digit}
+use Rattle.dvd_merge.specs.MarkedText.{number_of_marks, with_mark_bit}
 use Rattle.dvd_merge.specs.declared.place.Place.{Place}
 use Rattle.dvd_merge.specs.declared.place.Place.TheVariants.{Unseen}
 
@@ -25,7 +25,7 @@ pub first_number-more : (marks : List Bool) (k : ℕ) (mark : Bool) → k < leng
     → first_number marks (k + 1) ≡ 2 * first_number marks k + (if mark then 1 else 0)
 unfolding number_of_marks
 first_number-more marks k mark within is =
-    fold_more with_digit 0 marks k false within ∙ ap (λ m. 2 * first_number marks k + (if m then 1 else 0)) is
+    fold_more with_mark_bit 0 marks k false within ∙ ap (λ m. 2 * first_number marks k + (if m then 1 else 0)) is
 
 -- one cell more of a row's bytes or marks
 pub cell_more : {B : Type 0} (f : Place → B) (places : List Place) (cells : List B) (j : ℕ) (cell : B) → j < length places → j < length cells

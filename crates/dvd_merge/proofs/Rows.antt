@@ -4,7 +4,7 @@ use Rattle.std.proofs.lemmas.Bool.{cases_lt}
 use Rattle.std.proofs.lemmas.Simd.{get_or-zip2, length-zip2}
 use Rattle.dvd_capture.specs.MarkBits.{is_set}
 use Rattle.dvd_merge.specs.Join.{join, join_rows, seen, seen_row}
-use Rattle.dvd_merge.specs.Planes.{place_of, row_of}
+use Rattle.dvd_merge.specs.Planes.{place_from, row_of}
 use Rattle.dvd_merge.specs.Inner.Rows.{AreJoined, HasPlaces, at_place, joined_at}
 use Rattle.dvd_merge.specs.declared.place.Place.TheVariants.{Unseen}
 use Rattle.dvd_merge.proofs.PlaceLanes.{joined-again}
@@ -12,7 +12,7 @@ use Rattle.dvd_merge.proofs.Records.{row_taken}
 
 -- two planes agree with two others at a place
 same_place : (a b c d : List ℕ) (k m : ℕ) → get_or a k 0 ≡ get_or c m 0 → get_or b k 0 ≡ get_or d m 0 → at_place a b k ≡ at_place c d m
-same_place a b c d k m values codes = λ i. place_of (values i) (codes i)
+same_place a b c d k m values codes = λ i. place_from (values i) (codes i)
 
 module _ (values codes bytes marks : List ℕ) (at : ℕ) (lv lc lb lm : List ℕ) (rv rc new_values new_codes : List ℕ)
     (load_v : (k : ℕ) → k < 32 → get_or lv k 0 ≡ get_or values (at + k) 0) (load_c : (k : ℕ) → k < 32 → get_or lc k 0 ≡ get_or codes (at + k) 0)
@@ -27,7 +27,7 @@ module _ (values codes bytes marks : List ℕ) (at : ℕ) (lv lc lb lm : List �
     joined = λ k small.
         same_place new_values new_codes rv rc (at + k) k (set_v k small) (set_c k small)
         ∙ joined.each k small
-        ∙ (λ i. join (place_of (load_v k small i) (load_c k small i)) (seen (load_b k small i) (is_set (load_m k small i))));
+        ∙ (λ i. join (place_from (load_v k small i) (load_c k small i)) (seen (load_b k small i) (is_set (load_m k small i))));
     below = λ k low. same_place new_values new_codes values codes k k (below_v k low) (below_c k low);
     above = λ k high. same_place new_values new_codes values codes k k (above_v k high) (above_c k high);
   }
@@ -72,7 +72,7 @@ more-joined old_values old_codes values codes new_values new_codes bytes marks d
 
 -- a place of a row that is given by two planes
 pub row-place : (values codes : List ℕ) (k : ℕ) → k < length values → k < length codes → get_or (row_of values codes) k Unseen ≡ at_place values codes k
-row-place values codes k in_values in_codes = get_or-zip2 place_of values codes k 0 0 Unseen in_values in_codes
+row-place values codes k in_values in_codes = get_or-zip2 place_from values codes k 0 0 Unseen in_values in_codes
 
 -- a row whose places are joined is the join of the rows
 pub row-joined : (old_values old_codes values codes bytes spread : List ℕ) (marks : List Bool)
@@ -82,7 +82,7 @@ pub row-joined : (old_values old_codes values codes bytes spread : List ℕ) (ma
     → row_of values codes ≡ join_rows (row_of old_values old_codes) (seen_row bytes marks)
 row-joined old_values old_codes values codes bytes spread marks ov oc nv nc nb nm same each =
     row_taken (row_of old_values old_codes) (row_of values codes) bytes marks
-    (length-zip2 place_of old_values old_codes (ov ∙ sym oc) ∙ ov) nb nm (length-zip2 place_of values codes (nv ∙ sym nc) ∙ nv)
+    (length-zip2 place_from old_values old_codes (ov ∙ sym oc) ∙ ov) nb nm (length-zip2 place_from values codes (nv ∙ sym nc) ∙ nv)
     (λ k below.
     row-place values codes k (omega (arith, below, nv)) (omega (arith, below, nc)) ∙ each k below
     ∙ (λ i. join (sym (row-place old_values old_codes k (omega (arith, below, ov)) (omega (arith, below, oc))) i) (seen (get_or bytes k 0) (same k below i))))

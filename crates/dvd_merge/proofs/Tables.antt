@@ -7,7 +7,7 @@ use Rattle.std.proofs.lemmas.Simd.{length-zip2}
 use Rattle.coding.specs.Product.{line}
 use Rattle.dvd_capture.specs.Answers.{marks_line}
 use Rattle.dvd_merge.specs.Join.{Table, join_rows, known_at, known_row, seen_row, unseen}
-use Rattle.dvd_merge.specs.Planes.{place_of, row_of, table_in}
+use Rattle.dvd_merge.specs.Planes.{place_from, row_of, table_of_planes}
 use Rattle.dvd_merge.specs.declared.place.Place.{Place}
 use Rattle.dvd_merge.specs.declared.place.Place.TheVariants.{Unseen}
 use Rattle.dvd_merge.proofs.Lattice.{zip2-row}
@@ -27,39 +27,39 @@ zip2-replicate f zero x y = refl
 zip2-replicate f (suc n) x y = ap (λ l. f x y ∷ l) (zip2-replicate f n x y)
 
 -- a table has as many rows as its planes
-pub length-table : (values codes : List (List ℕ)) (n : ℕ) → length values ≡ n → length codes ≡ n → length (table_in values codes) ≡ n
+pub length-table : (values codes : List (List ℕ)) (n : ℕ) → length values ≡ n → length codes ≡ n → length (table_of_planes values codes) ≡ n
 length-table values codes n high same = length-zip2 row_of values codes (high ∙ sym same) ∙ high
 
 -- planes of zeros have seen nothing
 pub zeros-unseen : (values codes : List (List ℕ)) → values ≡ replicate 208 (replicate 182 0) → codes ≡ replicate 208 (replicate 182 0)
-    → table_in values codes ≡ unseen
+    → table_of_planes values codes ≡ unseen
 unfolding unseen
 zeros-unseen values codes values_are codes_are =
-    (λ i. table_in (values_are i) (codes_are i))
+    (λ i. table_of_planes (values_are i) (codes_are i))
     ∙ zip2-replicate row_of 208 (replicate 182 0) (replicate 182 0)
-    ∙ ap (λ (row : List Place). replicate 208 row) (zip2-replicate place_of 182 0 0)
+    ∙ ap (λ (row : List Place). replicate 208 row) (zip2-replicate place_from 182 0 0)
 
 module _ (values codes : List (List ℕ)) (i : ℕ) where
   -- a row of a table is that of its planes
-  pub row-planes : known_row (table_in values codes) i ≡ row_of (line values i) (line codes i)
-  row-planes = zip2-row place_of values codes i
+  pub row-planes : known_row (table_of_planes values codes) i ≡ row_of (line values i) (line codes i)
+  row-planes = zip2-row place_from values codes i
 
   -- and so is a place
   pub place-planes : (j : ℕ) → j < length (line values i) → j < length (line codes i)
-      → known_at (table_in values codes) i j ≡ place_of (get_or (line values i) j 0) (get_or (line codes i) j 0)
+      → known_at (table_of_planes values codes) i j ≡ place_from (get_or (line values i) j 0) (get_or (line codes i) j 0)
   place-planes j in_values in_codes =
       ap (λ (row : List Place). get_or row j Unseen) row-planes ∙ row-place (line values i) (line codes i) j in_values in_codes
 
   -- a row of both planes is set
-  pub row-set : (v c : List ℕ) (row : List Place) → row_of v c ≡ row → table_in (set values i v) (set codes i c) ≡ set (table_in values codes) i row
-  row-set v c row is = zip2-set row_of values codes i v c ∙ ap (set (table_in values codes) i) is
+  pub row-set : (v c : List ℕ) (row : List Place) → row_of v c ≡ row → table_of_planes (set values i v) (set codes i c) ≡ set (table_of_planes values codes) i row
+  row-set v c row is = zip2-set row_of values codes i v c ∙ ap (set (table_of_planes values codes) i) is
 
   -- a place of both planes is set
-  pub place-set : (v c : List ℕ) (j b k : ℕ) (p : Place) → v ≡ line values i → c ≡ line codes i → place_of b k ≡ p
-      → table_in (set values i (set v j b)) (set codes i (set c j k)) ≡ set (table_in values codes) i (set (known_row (table_in values codes) i) j p)
+  pub place-set : (v c : List ℕ) (j b k : ℕ) (p : Place) → v ≡ line values i → c ≡ line codes i → place_from b k ≡ p
+      → table_of_planes (set values i (set v j b)) (set codes i (set c j k)) ≡ set (table_of_planes values codes) i (set (known_row (table_of_planes values codes) i) j p)
   place-set v c j b k p v_is c_is is =
-      row-set (set v j b) (set c j k) (set (known_row (table_in values codes) i) j p)
-      (zip2-set place_of v c j b k ∙ (λ n. set (row_of (v_is n) (c_is n)) j (is n)) ∙ (λ n. set (sym row-planes n) j p))
+      row-set (set v j b) (set c j k) (set (known_row (table_of_planes values codes) i) j p)
+      (zip2-set place_from v c j b k ∙ (λ n. set (row_of (v_is n) (c_is n)) j (is n)) ∙ (λ n. set (sym row-planes n) j p))
 
 -- the rows of a table below i are joined to those of a capture, and the others are as they were
 pub record AreTaken (old now : Table) (rows : List (List ℕ)) (marks : List (List Bool)) (i : ℕ) : Type 0 where

@@ -6,7 +6,7 @@ use Rattle.coding.specs.Product.{line}
 use Rattle.dvd_capture.specs.Answers.{marks_line}
 use Rattle.dvd_capture.specs.Captured.{captured_marks, captured_rows}
 use Rattle.dvd_capture.specs.declared.form.Form.TheVariants.{Marked}
-use Rattle.dvd_merge.specs.Agreeing.{IsOf}
+use Rattle.dvd_merge.specs.Agreeing.{IsTableOf}
 use Rattle.dvd_merge.specs.Join.{Table, joined, joined_marks, joined_rows, seen_table}
 use Rattle.dvd_merge.specs.MarkedText.{marked_text}
 
@@ -19,7 +19,7 @@ CaptureOrderDoesNotCount = (a b : List Table) → ((table : Table) → Contains 
 abbrev pub CostDoesNotGrow : Type 0
 CostDoesNotGrow =
     (block rows : List (List ℕ)) (marks : List (List Bool)) (before after : List Table)
-    → All (IsOf block) before → All (IsOf block) after → (i : ℕ)
+    → All (IsTableOf block) before → All (IsTableOf block) after → (i : ℕ)
     → cost (line block i) (line (joined_rows (joined (before ++ seen_table rows marks ∷ after))) i)
     (marks_line (joined_marks (joined (before ++ seen_table rows marks ∷ after))) i)
     ≤ cost (line block i) (line rows i) (marks_line marks i)

@@ -7,12 +7,12 @@ use Rattle.dvd_merge.specs.Join.{Table, byte_of, joined_mark}
 use Rattle.dvd_merge.specs.declared.place.Place.{Place}
 
 -- Ours: a number with one binary digit more at its end, which is this mark
-abbrev pub with_digit : ℕ → Bool → ℕ
-with_digit number mark = 2 * number + (if mark then 1 else 0)
+abbrev pub with_mark_bit : ℕ → Bool → ℕ
+with_mark_bit number mark = 2 * number + (if mark then 1 else 0)
 
 -- Ours: the number whose binary digits are these marks, the first the highest
 unfoldable pub number_of_marks : List Bool → ℕ
-number_of_marks marks = fold with_digit 0 marks
+number_of_marks marks = fold with_mark_bit 0 marks
 
 -- Ours: byte k of the mark bits of a row: a digit for each of eight places, and after the last place two that are 0
 abbrev pub mark_byte : List Bool → ℕ → ℕ

@@ -6,8 +6,8 @@ use Rattle.dvd_merge.specs.declared.place.Place.{Place}
 use Rattle.dvd_merge.specs.declared.place.Place.TheVariants.{Unseen, Value, Conflict}
 
 -- the place of a value and a code: the value counts where the code is 1 alone
-abbrev pub place_of : ℕ → ℕ → Place
-place_of value code = if code == 0 then Unseen else if code == 1 then Value value else Conflict
+abbrev pub place_from : ℕ → ℕ → Place
+place_from value code = if code == 0 then Unseen else if code == 1 then Value value else Conflict
 
 -- the code of a place
 abbrev pub code_of : Place → ℕ
@@ -17,8 +17,8 @@ code_of Conflict = 2
 
 -- the places of a row
 abbrev pub row_of : List ℕ → List ℕ → List Place
-row_of values codes = zip2 place_of values codes
+row_of values codes = zip2 place_from values codes
 
 -- the places of a block, its rows one after the other
-abbrev pub table_in : List (List ℕ) → List (List ℕ) → Table
-table_in values codes = zip2 row_of values codes
+abbrev pub table_of_planes : List (List ℕ) → List (List ℕ) → Table
+table_of_planes values codes = zip2 row_of values codes

@@ -1,7 +1,7 @@
 //! What is known of a place of a block: by itself, and as the two bytes that a block keeps of each place.
 ghost use Rattle.std.specs.Prelude.{◌≡◌};
 ghost use Rattle.dvd_merge.specs.Join.{byte_of, join};
-ghost use Rattle.dvd_merge.specs.Planes.{code_of, place_of};
+ghost use Rattle.dvd_merge.specs.Planes.{code_of, place_from};
 
 /// What captures of a block know of one of its places.
 #[derive(Clone, Copy, Debug, PartialEq, Eq)]
@@ -24,7 +24,7 @@ pub(crate) const CONFLICT: u8 = 2;
 impl Place {
     // The place of these two bytes: its value, which counts where it is seen alone, and its code.
     pub(crate) fn new(value: u8, code: u8) -> Place
-        ensures { result ≡ place_of value code }
+        ensures { result ≡ place_from value code }
     {
         match code {
             UNSEEN => Place::Unseen,

@@ -3,7 +3,7 @@ ghost use Rattle.std.specs.Prelude.{◌≡◌, length, map};
 ghost use Rattle.dvd_merge.specs.Join.{byte_of};
 ghost use Rattle.dvd_merge.specs.MarkedText.{mark_bytes, marked_row, marked_text, number_of_marks};
 ghost use Rattle.dvd_merge.specs.Inner.Rows.{is_unknown};
-ghost use Rattle.dvd_merge.specs.Planes.{row_of, table_in};
+ghost use Rattle.dvd_merge.specs.Planes.{row_of, table_of_planes};
 
 use crate::lanes::known_bytes;
 use crate::place::SEEN;
@@ -22,7 +22,7 @@ pub(crate) const TEXT: usize = 208 * RECORD;
 pub(crate) fn fill_text(values: &[[u8; 182]], codes: &[[u8; 182]], text: &mut [u8; TEXT])
     requires values { length values.now ≡ 208 }
     requires codes { length codes.now ≡ 208 }
-    ensures { text.new ≡ marked_text (table_in values.now codes.now) }
+    ensures { text.new ≡ marked_text (table_of_planes values.now codes.now) }
 {
     // One buffer for all rows: each fills all of it.
     let mut record = [0; RECORD];

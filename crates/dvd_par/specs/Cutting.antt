@@ -10,7 +10,7 @@ pub record IsPieceSize (total workers size : ℕ) : Type 0 where
   pub least : workers * (size - 1) < total
 
 -- Each item was changed by the work on its piece, and pieces have the least size that serves.
-pub record IsCut {F X : Type 0} (g : Shared F (ℕ × (MutBor (List X) × Unit {0})) (Unit {0} × (MutBor (List X) × Unit {0}))) (work : F) (workers : ℕ) (old new : List X) : Type 0 where
+pub record IsDoneInPieces {F X : Type 0} (g : Shared F (ℕ × (MutBor (List X) × Unit {0})) (Unit {0} × (MutBor (List X) × Unit {0}))) (work : F) (workers : ℕ) (old new : List X) : Type 0 where
   pub size : ℕ
   pub is_size : IsPieceSize (length old) workers size
   pub pieces : AllInChunks g work size old new

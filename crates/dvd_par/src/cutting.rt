@@ -2,7 +2,7 @@
 //! ends, so that the next pass sees all of this one.
 ghost use Rattle.std.specs.Prelude.{ℕ, ◌<◌, ◌≤◌, length};
 ghost use Rattle.std.specs.Fork.{AcceptsAt, AcceptsChunksMut, ChangesAt};
-ghost use Rattle.dvd_par.specs.Cutting.{IsCut, IsPieceSize};
+ghost use Rattle.dvd_par.specs.Cutting.{IsDoneInPieces, IsPieceSize};
 
 use crate::gate::Gate;
 use std::thread::{Threads, for_each_chunk_mut};
@@ -30,7 +30,7 @@ pub fn for_each_piece<R: Threads + Sync, G: Gate, T: Send, F: Fn(usize, &mut [T]
     requires workers { 1 ≤ workers }
     requires some { 1 ≤ length items.old }
     requires accepts { (size : ℕ) → AcceptsChunksMut F.Fn work.now size items.old }
-    ensures { IsCut F.Fn work.now workers items.old items.new }
+    ensures { IsDoneInPieces F.Fn work.now workers items.old items.new }
 {
     let size = piece_size(items.len(), workers);
     // The gate sees the number of a piece, and the work its first item.

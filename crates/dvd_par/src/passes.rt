@@ -14,7 +14,7 @@ use crate::cutting::for_each_piece;
 use crate::gate::Gate;
 use dvd_capture::parts::{AnswerRow, ColumnAnswer, Marks, Received};
 use dvd_capture::{Stage, Work};
-use dvd_read::parts::{answer_columns, answer_rows, are_few, are_kept, mark_failed, settle};
+use dvd_read::parts::{answer_columns, answer_rows, are_few, are_kept, end_passes, mark_failed};
 use dvd_read::{Cause, Fixed};
 use rs_code::{Pi, Po};
 use std::thread::Threads;
@@ -34,7 +34,7 @@ pub fn two_pass_par<R: Threads + Sync, G: Gate>(
 {
     let are_kept = answer_block(rt, workers, gate, work);
     // What the passes came to is asked once all pieces are done.
-    settle(work, are_kept)
+    end_passes(work, are_kept)
 }
 
 /// Answers the rows and columns of a captured block. Answers whether the columns are known to correct no row that was

@@ -10,7 +10,7 @@ use crate::gate::Gate;
 use crate::passes::answer_block;
 use dvd_capture::Work;
 use dvd_layout::BlockPlan;
-use dvd_read::parts::{Source, sectors_of_block, settle};
+use dvd_read::parts::{FrameSource, end_passes, sectors_of_block};
 use dvd_read::{Cause, Fixed};
 use std::thread::Threads;
 
@@ -29,9 +29,9 @@ pub fn read_block_par<R: Threads + Sync, G: Gate>(
     ensures { IsBlockRead work.old work.new plan.now result }
 {
     let are_kept = answer_block(rt, workers, gate, work);
-    match settle(work, are_kept) {
+    match end_passes(work, are_kept) {
         Ok(fixed) => {
-            sectors_of_block(work, plan, Source::of(fixed.bytes, are_kept))?;
+            sectors_of_block(work, plan, FrameSource::of(fixed.bytes, are_kept))?;
             Ok(fixed)
         }
         Err(cause) => {

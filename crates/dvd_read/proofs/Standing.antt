@@ -22,7 +22,7 @@ use Rattle.coding.specs.TwoPass.{failed_of, from_columns}
 use Rattle.dvd_capture.specs.declared.parts.AnswerRow.{AnswerRow}
 use Rattle.dvd_capture.specs.declared.parts.ColumnAnswer.{ColumnAnswer}
 use Rattle.dvd_capture.proofs.Columns.{from_columns-line}
-use Rattle.dvd_read.specs.Parts.{AreKeptFrom, AreRowsKept, answer_by, answer_word, bytes_of}
+use Rattle.dvd_read.specs.Parts.{AreKeptFrom, AreRowsKept, answer_by, answer_word, answer_bytes}
 use Rattle.dvd_read.specs.Inner.Found.{words_of_columns}
 use Rattle.dvd_read.specs.Inner.Standing.{AreCodewords}
 use Rattle.dvd_read.proofs.ColumnAnswers.{blank_column}
@@ -140,23 +140,23 @@ abbrev bytes : AnswerRow → List ℕ
 bytes answer = answer.bytes
 
 -- row i of the answers' bytes is those of answer i
-pub get_or-bytes_of : (answers : List AnswerRow) (i : ℕ) → i < length answers → line (bytes_of answers) i ≡ (get_or answers i blank_answer).bytes
-get_or-bytes_of answers i within = get_or-map bytes answers i blank_answer [] within
+pub get_or-answer_bytes : (answers : List AnswerRow) (i : ℕ) → i < length answers → line (answer_bytes answers) i ≡ (get_or answers i blank_answer).bytes
+get_or-answer_bytes answers i within = get_or-map bytes answers i blank_answer [] within
 
 -- the answers' bytes are as many rows as there are answers
-pub length-bytes_of : (answers : List AnswerRow) → length (bytes_of answers) ≡ length answers
-length-bytes_of answers = length-map answers bytes
+pub length-answer_bytes : (answers : List AnswerRow) → length (answer_bytes answers) ≡ length answers
+length-answer_bytes answers = length-map answers bytes
 
 -- once the bytes of all rows are copied, they are the column
 pub column-copied : (answers : List AnswerRow) (j : ℕ) (word : List ℕ) → length answers ≡ 208 → length word ≡ 208
-    → ((k : ℕ) → k < 208 → get_or word k 0 ≡ get_or (line (bytes_of answers) k) j 0)
-    → word ≡ column (bytes_of answers) j
+    → ((k : ℕ) → k < 208 → get_or word k 0 ≡ get_or (line (answer_bytes answers) k) j 0)
+    → word ≡ column (answer_bytes answers) j
 column-copied answers j word size word_size copied =
-    same_number_lists word (map (λ row. slice_index row j) (bytes_of answers))
-    (word_size ∙ sym (length-map (bytes_of answers) (λ row. slice_index row j) ∙ length-bytes_of answers ∙ size))
+    same_number_lists word (map (λ row. slice_index row j) (answer_bytes answers))
+    (word_size ∙ sym (length-map (answer_bytes answers) (λ row. slice_index row j) ∙ length-answer_bytes answers ∙ size))
     (λ k within.
-    let inside : k < length (bytes_of answers) = omega (arith, length-bytes_of answers) in
-    copied k (omega arith) ∙ sym (get_or-map (λ (row : List ℕ). slice_index row j) (bytes_of answers) k [] 0 inside))
+    let inside : k < length (answer_bytes answers) = omega (arith, length-answer_bytes answers) in
+    copied k (omega arith) ∙ sym (get_or-map (λ (row : List ℕ). slice_index row j) (answer_bytes answers) k [] 0 inside))
 
 -- ---- blocks whose columns correct no row that was answered
 
@@ -166,9 +166,9 @@ pub rows-kept : (answers : List AnswerRow) (columns : List ColumnAnswer) → len
 rows-kept answers columns size columns_size codewords kept i d below answered =
     let word : ColumnAnswer → List ℕ = λ column. column.bytes in
     let words : List (List ℕ) = words_of_columns columns in
-    let rows : List (List ℕ) = bytes_of answers in
+    let rows : List (List ℕ) = answer_bytes answers in
     let inside : i < length answers = omega arith in
-    let inside_rows : i < length rows = omega (arith, length-bytes_of answers) in
+    let inside_rows : i < length rows = omega (arith, length-answer_bytes answers) in
     let width : length (get_or answers i d).bytes ≡ 182 = (answered-codeword answers i d below codewords answered).size in
     let height : length (failed_of (map answer_word answers)) ≡ 208 = length-map (map answer_word answers) is_none ∙ length-map answers answer_word ∙ size in
     from_columns-line words i below

@@ -24,8 +24,8 @@ abbrev pub column_word : ColumnAnswer → Option (List ℕ)
 column_word column = if column.answered then Some column.bytes else None
 
 -- the bytes of the rows' answers; where no row failed, these are the words of the answers
-abbrev pub bytes_of : List AnswerRow → List (List ℕ)
-bytes_of answers = map (λ (answer : AnswerRow). answer.bytes) answers
+abbrev pub answer_bytes : List AnswerRow → List (List ℕ)
+answer_bytes answers = map (λ (answer : AnswerRow). answer.bytes) answers
 
 -- these are the answers of the first pass to the rows from `start` on
 pub record AreAnswersFrom (received : List (List ℕ)) (marks : List (List Bool)) (start : ℕ) (piece : List AnswerRow) : Type 0 where
@@ -40,7 +40,7 @@ pub record AreColumnsFrom (answers : List (Option (List ℕ))) (start : ℕ) (pi
 -- these have, in each row that didn't fail, the bytes of the columns of these answers from `start` on
 pub record AreKeptFrom (answers : List AnswerRow) (start : ℕ) (piece : List ColumnAnswer) : Type 0 where
   pub are : (k : ℕ) (default : ColumnAnswer) → k < length piece
-      → AgreeUnmarked (failed_of (map answer_word answers)) (column (bytes_of answers) (start + k)) (slice_index_or piece k default).bytes
+      → AgreeUnmarked (failed_of (map answer_word answers)) (column (answer_bytes answers) (start + k)) (slice_index_or piece k default).bytes
 
 -- a block has the answers of all rows that didn't fail
 abbrev pub AreRowsKept : List AnswerRow → List (List ℕ) → Type 0

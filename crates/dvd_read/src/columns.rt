@@ -20,7 +20,7 @@ use arrayvec::ArrayVec;
 use dvd_capture::parts::{AnswerRow, ColumnAnswer};
 use rs_code::Po;
 use rs_decode::{Erasures, Patches, decode_from};
-use rs_lanes::{any_of, column_values, load, load_turned, store, turned_values};
+use rs_lanes::{any_of, column_values, load, load_transposed, store, transposed_values};
 use std::simd::prelude::*;
 
 /// Answers the columns from `start` on, one for each place of a piece of the columns. Answers whether they correct no row
@@ -105,9 +105,9 @@ fn copy_rows(answers: &[AnswerRow], top: usize, start: usize, piece: &mut [Colum
 {
     // Sixteen places are turned even where fewer follow.
     let at = start.min(166);
-    let turned = load_turned(answers, top, at);
+    let transposed = load_transposed(answers, top, at);
     for (j, column) in piece.iter_mut().enumerate() {
-        put_lanes(turned[start - at + j], top, &mut column.bytes);
+        put_lanes(transposed[start - at + j], top, &mut column.bytes);
     }
 }
 
@@ -140,7 +140,7 @@ fn answer_copied(
 ) -> bool
     requires rows { length answers.now ≡ 208 }
     requires marks { erasures.now.marks ≡ failed_of (map answer_word answers.now) }
-    requires borne { marked erasures.now.marks ≤ 16 }
+    requires within { marked erasures.now.marks ≤ 16 }
     requires columns { start + length piece.old ≤ 182 }
     requires own { AreOwnFrom answers.now start piece.old }
     ensures columns { AreColumnsFrom (map answer_word answers.now) start piece.new }
@@ -168,7 +168,7 @@ fn answer_group(
 ) -> bool
     requires rows { length answers.now ≡ 208 }
     requires marks { erasures.now.marks ≡ failed_of (map answer_word answers.now) }
-    requires borne { marked erasures.now.marks ≤ 16 }
+    requires within { marked erasures.now.marks ≤ 16 }
     requires few { length piece.old ≤ 32 }
     requires columns { start + length piece.old ≤ 182 }
     requires own { AreOwnFrom answers.now start piece.old }
@@ -216,7 +216,7 @@ fn fill_column(
     column: &mut ColumnAnswer,
 ) -> bool
     requires lane { n < 32 }
-    requires borne { marked erasures.now.marks ≤ 16 }
+    requires within { marked erasures.now.marks ≤ 16 }
     requires wrong { wrong ≡ 0 → IsCodeword 208 16 column.old.bytes }
     requires completes { Completes patches.now erasures.now.marks n column.old.bytes }
     ensures answered { IsTrue result → column_word column.new ≡ near_of 208 16 column.old.bytes erasures.now.marks }
@@ -290,7 +290,7 @@ fn first_wrong_from(columns: &[ColumnAnswer], top: usize) -> Option<u16>
     requires top { top + 32 ≤ 208 }
     ensures { MatchOption result (AreRightFrom columns.now top 32) (λ i. IsFirstWrongRow columns.now top i) }
 {
-    let wrong = any_of(&turned_values(&turned_rows(columns, top)));
+    let wrong = any_of(&transposed_values(&transposed_rows(columns, top)));
     for n in 0..32usize {
         if wrong[n] != 0 {
             return Some((top + n) as u16);
@@ -301,17 +301,17 @@ fn first_wrong_from(columns: &[ColumnAnswer], top: usize) -> Option<u16>
 
 // The 32 rows of the columns' words from `top` on, a vector for each place. Columns are stored as such, so that each
 // gives a vector without being transposed.
-fn turned_rows(columns: &[ColumnAnswer], top: usize) -> [u8x32; 182]
+fn transposed_rows(columns: &[ColumnAnswer], top: usize) -> [u8x32; 182]
     requires columns { length columns.now ≡ 182 }
     requires top { top + 32 ≤ 208 }
     ensures size { length result ≡ 182 }
     ensures rows { (n : ℕ) → n < 32 → column result n ≡ line (from_columns (words_of_columns columns.now)) (top + n) }
 {
-    let mut turned = [u8x32::splat(0); 182];
+    let mut transposed = [u8x32::splat(0); 182];
     for j in 0..182usize {
-        turned[j] = lanes_at(&columns[j].bytes, top);
+        transposed[j] = lanes_at(&columns[j].bytes, top);
     }
-    turned
+    transposed
 }
 
 // The 32 bytes of a column from place `at` on.

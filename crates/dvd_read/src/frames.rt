@@ -28,13 +28,13 @@ pub fn sectors(work: &mut Work, plan: &BlockPlan) -> Result<(), Cause>
     ensures { AreFramesChecked work.old work.new plan.now result }
 {
     // The columns have the whole block, whichever rows the passes changed.
-    sectors_of_block(work, plan, Source::Columns)
+    sectors_of_block(work, plan, FrameSource::Columns)
 }
 
 /// Where the rows of a block that two passes fixed are read. They are whole in the received rows and in the rows' answers, and
 /// spread over all columns. The columns have a byte of a row each, so whole rows are read where there are any.
 #[derive(Clone, Copy, Debug, PartialEq, Eq)]
-pub enum Source {
+pub enum FrameSource {
     /// In what was received, where the block is that.
     Received,
     /// In the rows' answers, where those are the block's, and the failed rows in the columns.
@@ -43,28 +43,28 @@ pub enum Source {
     Columns,
 }
 
-impl Source {
+impl FrameSource {
     /// Where the rows of a block are read of which so many bytes were fixed, and whose answered rows are kept or may not be.
-    pub fn of(bytes: u32, are_kept: bool) -> Source
-        ensures received { result ≡ Source.Received → bytes ≡ 0 }
-        ensures answers { result ≡ Source.Answers → IsTrue are_kept }
+    pub fn of(bytes: u32, are_kept: bool) -> FrameSource
+        ensures received { result ≡ FrameSource.Received → bytes ≡ 0 }
+        ensures answers { result ≡ FrameSource.Answers → IsTrue are_kept }
     {
         if bytes == 0 {
-            Source::Received
+            FrameSource::Received
         } else if are_kept {
-            Source::Answers
+            FrameSource::Answers
         } else {
-            Source::Columns
+            FrameSource::Columns
         }
     }
 }
 
 /// Checks the frames as `sectors` does, of rows that are read from this source.
-pub fn sectors_of_block(work: &mut Work, plan: &BlockPlan, source: Source) -> Result<(), Cause>
+pub fn sectors_of_block(work: &mut Work, plan: &BlockPlan, source: FrameSource) -> Result<(), Cause>
     requires stage { stage_of work.old ≡ Stage.Fixed }
     requires numbers { HasNumbers plan.now }
-    requires received { source ≡ Source.Received → block_differences (rows_of work.old) (block_of work.old) ≡ 0 }
-    requires answers { source ≡ Source.Answers → AreRowsKept (answers_of_work work.old) (block_of work.old) }
+    requires received { source ≡ FrameSource.Received → block_differences (rows_of work.old) (block_of work.old) ≡ 0 }
+    requires answers { source ≡ FrameSource.Answers → AreRowsKept (answers_of_work work.old) (block_of work.old) }
     ensures { AreFramesChecked work.old work.new plan.now result }
 {
     let answers = work.answers.rows();
@@ -85,14 +85,14 @@ fn read_frames(
     received: &Received,
     answers: &[AnswerRow],
     columns: &[ColumnAnswer],
-    source: Source,
+    source: FrameSource,
     plan: &BlockPlan,
     sectors: &mut Sectors,
 ) -> Result<(), Cause>
     requires rows { length answers.now ≡ 208 }
     requires columns { length columns.now ≡ 182 }
-    requires received { source ≡ Source.Received → block_differences (received_rows received.now) (from_columns (words_of_columns columns.now)) ≡ 0 }
-    requires answers { source ≡ Source.Answers → AreRowsKept answers.now (from_columns (words_of_columns columns.now)) }
+    requires received { source ≡ FrameSource.Received → block_differences (received_rows received.now) (from_columns (words_of_columns columns.now)) ≡ 0 }
+    requires answers { source ≡ FrameSource.Answers → AreRowsKept answers.now (from_columns (words_of_columns columns.now)) }
     requires numbers { HasNumbers plan.now }
     ensures refused { IfErr result (λ cause. frames_cause (from_columns (words_of_columns columns.now)) plan.now ≡ Some cause) }
     ensures right { OnOk result (frames_cause (from_columns (words_of_columns columns.now)) plan.now ≡ None) }
@@ -154,21 +154,21 @@ fn get_frame(
     received: &Received,
     answers: &[AnswerRow],
     columns: &[ColumnAnswer],
-    source: Source,
+    source: FrameSource,
     f: usize,
     frame: &mut [u8; 2064],
 )
     requires rows { length answers.now ≡ 208 }
     requires columns { length columns.now ≡ 182 }
-    requires received { source ≡ Source.Received → block_differences (received_rows received.now) (from_columns (words_of_columns columns.now)) ≡ 0 }
-    requires answers { source ≡ Source.Answers → AreRowsKept answers.now (from_columns (words_of_columns columns.now)) }
+    requires received { source ≡ FrameSource.Received → block_differences (received_rows received.now) (from_columns (words_of_columns columns.now)) ≡ 0 }
+    requires answers { source ≡ FrameSource.Answers → AreRowsKept answers.now (from_columns (words_of_columns columns.now)) }
     requires frame { f < 16 }
     ensures { frame.new ≡ frame_of (from_columns (words_of_columns columns.now)) f }
 {
     match source {
-        Source::Received => copy_received(received.rows(), f, frame),
-        Source::Answers => copy_kept(answers, columns, f, frame),
-        Source::Columns => copy_frame(columns, f, frame),
+        FrameSource::Received => copy_received(received.rows(), f, frame),
+        FrameSource::Answers => copy_kept(answers, columns, f, frame),
+        FrameSource::Columns => copy_frame(columns, f, frame),
     }
 }
 

@@ -7,7 +7,7 @@ ghost use Rattle.dvd_read.specs.Parts.{AreKeptFrom, answer_word};
 ghost use Rattle.dvd_read.specs.Inner.Standing.{IsRowKept};
 
 use dvd_capture::parts::{AnswerRow, ColumnAnswer};
-use rs_lanes::{any_of, load, load_turned};
+use rs_lanes::{any_of, load, load_transposed};
 use std::simd::prelude::*;
 
 /// Whether the columns of a block have, in each row that didn't fail, the bytes of the rows' answers.
@@ -73,10 +73,10 @@ fn tile_changed(answers: &[AnswerRow], columns: &[ColumnAnswer], top: usize, at:
     ensures size { length result ≡ 32 }
     ensures zeros { (n : ℕ) → n < 32 → (slice_index result n ≡ 0) ↔ IsRowKept answers.now columns.now (top + n) at (at + 16) }
 {
-    let turned = load_turned(answers, top, at);
+    let transposed = load_transposed(answers, top, at);
     let mut differences = [u8x32::splat(0); 16];
     for j in 0..16usize {
-        differences[j] = difference(turned[j], &columns[at + j].bytes, top);
+        differences[j] = difference(transposed[j], &columns[at + j].bytes, top);
     }
     any_of(&differences)
 }

@@ -2,8 +2,8 @@
 //! once. `two_pass` and `read_block` are made of the same calls, with one piece each. One frame is salvaged by itself, for
 //! whoever asks which of the sixteen are.
 pub use crate::columns::answer_columns;
-pub use crate::frames::{Source, sectors_of_block};
+pub use crate::frames::{FrameSource, sectors_of_block};
 pub use crate::kept::are_kept;
-pub use crate::passes::settle;
+pub use crate::passes::end_passes;
 pub use crate::rescue::salvage_frame;
 pub use crate::rows::{answer_rows, are_few, count_failed, mark_failed};

@@ -33,7 +33,7 @@ pub fn two_pass(work: &mut Work) -> Result<Fixed, Cause>
     ensures { IsDecoded work.old work.new result }
 {
     let are_kept = answer_block(work);
-    settle(work, are_kept)
+    end_passes(work, are_kept)
 }
 
 /// Answers the rows and columns of a captured block. Answers whether the columns correct no row that was answered.
@@ -76,7 +76,7 @@ fn answer_all_columns(answers: &[AnswerRow], columns: &mut [ColumnAnswer]) -> bo
 
 /// Sets the stage of a block whose rows and columns are answered, as `two_pass` does: the block of these columns must have
 /// codewords in all its rows. Where the columns correct no row that was answered, these rows are codewords and need no test.
-pub fn settle(work: &mut Work, are_kept: bool) -> Result<Fixed, Cause>
+pub fn end_passes(work: &mut Work, are_kept: bool) -> Result<Fixed, Cause>
     requires answers { AreAnswersFrom (rows_of work.old) (marks_of_work work.old) 0 (answers_of_work work.old) }
     requires columns { marked (failed_of (map answer_word (answers_of_work work.old))) ≤ 16
         → AreColumnsFrom (map answer_word (answers_of_work work.old)) 0 (column_answers work.old.columns) }

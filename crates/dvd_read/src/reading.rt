@@ -5,8 +5,8 @@ ghost use Rattle.dvd_layout.specs.Place.{HasNumbers};
 ghost use Rattle.dvd_read.specs.Calls.{IsBlockRead};
 
 use crate::fixed::Fixed;
-use crate::frames::{Source, sectors_of_block};
-use crate::passes::{answer_block, settle};
+use crate::frames::{FrameSource, sectors_of_block};
+use crate::passes::{answer_block, end_passes};
 use dvd_capture::Work;
 use dvd_decoding::Cause;
 use dvd_layout::BlockPlan;
@@ -20,9 +20,9 @@ pub fn read_block(work: &mut Work, plan: &BlockPlan) -> Result<Fixed, Cause>
     ensures { IsBlockRead work.old work.new plan.now result }
 {
     let are_kept = answer_block(work);
-    match settle(work, are_kept) {
+    match end_passes(work, are_kept) {
         Ok(fixed) => {
-            sectors_of_block(work, plan, Source::of(fixed.bytes, are_kept))?;
+            sectors_of_block(work, plan, FrameSource::of(fixed.bytes, are_kept))?;
             Ok(fixed)
         }
         Err(cause) => {

@@ -1,9 +1,9 @@
 //! Squares of sixteen rows and sixteen places, transposed: the bytes of one fill sixteen registers of sixteen bytes.
 ghost use Rattle.std.specs.Prelude.{◌≡◌, ℕ, ◌+◌, ◌/◌, ◌%◌, ◌<◌, ◌≤◌, length, slice_index, slice_index_or, EachIndex};
 ghost use Rattle.coding.specs.Product.{line, place};
-ghost use Rattle.dvd_read.specs.Inner.Squares.{IsRiffled, IsTurned};
+ghost use Rattle.dvd_read.specs.Inner.Squares.{IsRiffled, IsTransposed};
 ghost use Rattle.dvd_read.specs.Inner.Standing.{AreCopied, AreOwnFrom};
-ghost use Rattle.dvd_read.specs.Parts.{bytes_of};
+ghost use Rattle.dvd_read.specs.Parts.{answer_bytes};
 
 use dvd_capture::parts::{AnswerRow, ColumnAnswer};
 use std::simd::prelude::*;
@@ -44,7 +44,7 @@ fn load_square(answers: &[AnswerRow], top: usize, at: usize) -> [u8x16; 16]
     requires top { top + 16 ≤ length answers.now }
     requires at { at + 16 ≤ 182 }
     ensures lanes { EachIndex result (λ k. length (line result k) ≡ 16) }
-    ensures turned { (k n : ℕ) → k < 16 → n < 16 → place result k n ≡ place (bytes_of answers.now) (top + n) (at + k) }
+    ensures transposed { (k n : ℕ) → k < 16 → n < 16 → place result k n ≡ place (answer_bytes answers.now) (top + n) (at + k) }
 {
     turn(&load_rows(answers, top, at))
 }
@@ -77,7 +77,7 @@ fn load_rows(answers: &[AnswerRow], top: usize, at: usize) -> [u8x16; 16]
     requires top { top + 16 ≤ length answers.now }
     requires at { at + 16 ≤ 182 }
     ensures lanes { EachIndex result (λ k. length (line result k) ≡ 16) }
-    ensures bytes { (k n : ℕ) → k < 16 → n < 16 → place result k n ≡ place (bytes_of answers.now) (top + k) (at + n) }
+    ensures bytes { (k n : ℕ) → k < 16 → n < 16 → place result k n ≡ place (answer_bytes answers.now) (top + k) (at + n) }
 {
     let mut square = [u8x16::splat(0); 16];
     for k in 0..16 {
@@ -111,7 +111,7 @@ fn load(row: &[u8], at: usize) -> u8x16
 fn turn(square: &[u8x16; 16]) -> [u8x16; 16]
     requires { EachIndex square.now (λ k. length (line square.now k) ≡ 16) }
     ensures lanes { EachIndex result (λ k. length (line result k) ≡ 16) }
-    ensures turned { IsTurned square.now result }
+    ensures transposed { IsTransposed square.now result }
 {
     riffle(&riffle(&riffle(&riffle(square))))
 }

@@ -5,13 +5,13 @@ use Rattle.dvd_layout.specs.Content.{image_from}
 use Rattle.dvd_layout.specs.declared.entry.BlockPlan.{BlockPlan}
 use Rattle.dvd_layout.specs.declared.layout.Layout.{Layout}
 use Rattle.dvd_layout.specs.declared.layout.Zones.{Zones}
-use Rattle.dvd_loop.specs.Laws.{AreTotal, IsFaultless, IsFrontOf}
+use Rattle.dvd_loop.specs.Laws.{AreTotal, IsFaultless, IsPrefixOf}
 use Rattle.dvd_loop.specs.Machine.{IsOutcome, Outcome, Step}
 use Rattle.dvd_loop.specs.Machine.Step.{Write}
 use Rattle.dvd_loop.specs.UnitCommand.{written}
 use Rattle.dvd_loop.specs.declared.ends.UnitKind.{UnitKind}
 use Rattle.dvd_loop.specs.declared.ends.UnitKind.TheVariants.{Good}
-use Rattle.dvd_commands.specs.Bound.{GivesBack, IsBorneBlock, IsRescued, KeepsBound, KeepsGoodFrames, Rescues}
+use Rattle.dvd_commands.specs.Bound.{GivesBack, IsBlockWithinBound, IsRescued, KeepsBound, KeepsGoodFrames, Rescues}
 use Rattle.dvd_commands.specs.Captured.{block_bytes}
 use Rattle.dvd_commands.specs.Commands.{GoesOver, meaning}
 use Rattle.dvd_commands.specs.Meaning.{GoesBy}
@@ -27,14 +27,14 @@ use Rattle.dvd_commands.proofs.CapturedBlocks.{block-whole}
 use Rattle.dvd_top.proofs.OpenedRuns.{after_header}
 use Rattle.dvd_commands.proofs.RecoveredWidths.{IsWide, block_units, deepened-wide, recovered-wide}
 use Rattle.dvd_commands.proofs.AnyEnd.{at_any_end, part-begun}
-use Rattle.dvd_commands.proofs.BorneBlocks.{RepairsBy, repaired, repaired_deep}
+use Rattle.dvd_commands.proofs.BlocksWithinBound.{RepairsBy, repaired, repaired_deep}
 use Rattle.dvd_commands.proofs.ForRuns.{deep_total, loops_keep_good, recover_total}
 use Rattle.dvd_commands.proofs.BlockUnits.{has_unit, length-part, part_there}
 
 -- what may be done for a block within the bound, where such damage is repaired
 alone : (Performs : Layout → Zones → Form → ℕ → List ℕ → List Step → UnitKind → Type 0) → RepairsBy Performs
     → (layout : Layout) (zones : Zones) (form : Form) (bytes cpr image : List ℕ) (k : ℕ) (entry : BlockPlan)
-    → IsBorneBlock layout zones form bytes cpr image k entry
+    → IsBlockWithinBound layout zones form bytes cpr image k entry
     → (steps : List Step) (kind : UnitKind) → Performs layout zones form k (block_bytes form bytes k) steps kind
     → (steps ≡ Write (image_part layout entry image) ∷ []) × (kind ≡ Good)
 alone Performs repairs layout zones form bytes cpr image k entry b steps kind does =
@@ -46,7 +46,7 @@ alone Performs repairs layout zones form bytes cpr image k entry b steps kind do
 module _ (layout : Layout) (zones : Zones) (form : Form) (May : ℕ → List ℕ → List Step → UnitKind → Type 0)
     (wide : (k : ℕ) (own : List ℕ) (steps : List Step) (kind : UnitKind) → May k own steps kind → IsWide (bytes_of_block layout zones k) steps kind) where
   -- Where its image sectors alone may be written of a block within the bound, they are at their place.
-  module _ (cpr image : List ℕ) (bytes : List ℕ) (k : ℕ) (entry : BlockPlan) (b : IsBorneBlock layout zones form bytes cpr image k entry)
+  module _ (cpr image : List ℕ) (bytes : List ℕ) (k : ℕ) (entry : BlockPlan) (b : IsBlockWithinBound layout zones form bytes cpr image k entry)
       (alone : (steps : List Step) (kind : UnitKind) → May k (block_bytes form bytes k) steps kind → (steps ≡ Write (image_part layout entry image) ∷ []) × (kind ≡ Good)) where
     -- in a run that no fault ended, the image sectors of the block are written where they are in the image
     at_place : (a : Outcome) → IsOutcome (block_units layout zones form May) bytes a → IsFaultless a.end
@@ -56,13 +56,13 @@ module _ (layout : Layout) (zones : Zones) (form : Form) (May : ℕ → List ℕ
         let t = has_unit layout zones form May wide bytes a runs none k entry m.stands m.is_image m.whole in
         let back = alone t.steps t.kind t.does in
         part_there (2048 * image_from entry.content) (image_bytes layout entry) t.before (image_part layout entry image) a.out t.size
-        (length-part layout entry.content image m.image_size) (subst (λ s. IsFrontOf (t.before ++ written s) a.out) back.0 t.out)
+        (length-part layout entry.content image m.image_size) (subst (λ s. IsPrefixOf (t.before ++ written s) a.out) back.0 t.out)
 
 -- The bound is kept by units that write, of a block within the bound, its image sectors alone.
 units_keep : (settings : Settings) (command : Command) (layout : Layout) → IsLayoutOf settings layout
     → ((k : ℕ) (own : List ℕ) (steps : List Step) (kind : UnitKind) → IsRescued command layout settings.zones settings.form k own steps kind → IsWide (bytes_of_block layout settings.zones k) steps kind)
     → AreTotal (block_units layout settings.zones settings.form (IsRescued command layout settings.zones settings.form))
-    → ((bytes cpr image : List ℕ) (k : ℕ) (entry : BlockPlan) → IsBorneBlock layout settings.zones settings.form bytes cpr image k entry
+    → ((bytes cpr image : List ℕ) (k : ℕ) (entry : BlockPlan) → IsBlockWithinBound layout settings.zones settings.form bytes cpr image k entry
     → (steps : List Step) (kind : UnitKind) → IsRescued command layout settings.zones settings.form k (block_bytes settings.form bytes k) steps kind
     → (steps ≡ Write (image_part layout entry image) ∷ []) × (kind ≡ Good))
     → settings.command ≡ command

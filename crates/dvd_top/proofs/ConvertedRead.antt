@@ -134,7 +134,7 @@ module _ (layout : Layout) (zones : Zones) (form : Form) (has : HasSize form) (o
           again = taking unit after_last;
           goes = subst (λ l. Continues listing (suc n) lb bad l (taking unit after_last)) (sym out_is)
               (inr (taken_then listing lb _ (unit ++ t.after.out) unit t.after.out o.steps o.kind _ after_last refl
-              (record { whole = captured_whole Listed unit is.size is.lawful; does = listed_does })
+              (record { whole = captured_whole Listed unit is.size is.valid; does = listed_does })
               (does_all o.steps (ContinuesAfter o.kind Next) r.again
               (goes_on o.kind Next r.again (λ last. recover_last rb o.own o.steps (subst (IsUnit reading rb o.own o.steps) last o.unit)) r.goes)) refl));
           out = ap (λ l. written o.steps ++ l) r.out ∙ sym (ap (λ (x : Outcome). x.out) o.is);
@@ -175,10 +175,10 @@ module _ (layout : Layout) (zones : Zones) (form : Form) (has : HasSize form) (o
 
 -- the law: recovery does for what was converted what it does for what it was converted from
 pub converted_read : ConvertedIsRead
-converted_read settings words bytes c a is_convert is_recover listed has lawful conv done rec none =
+converted_read settings words bytes c a is_convert is_recover listed has valid conv done rec none =
     let form = settings.form in
     let rule : broken_rule settings ≡ None =
-    subst (λ command. (meaning command).breaks settings ≡ None) is_convert (sym (breaks_by_words form has settings) ∙ lawful) in
+    subst (λ command. (meaning command).breaks settings ≡ None) is_convert (sym (breaks_by_words form has settings) ∙ valid) in
     let ((layout, opening), (is, header), runs) =
     subst (λ command. GoesBy (meaning command) settings bytes c) is_convert (words_of form has GoesOver settings bytes c conv) in
     let (other, so, read) = words_of form has GoesOver (record settings { command = Recover }) bytes a rec in

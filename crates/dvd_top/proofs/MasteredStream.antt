@@ -40,7 +40,7 @@ use Rattle.dvd_commands.proofs.Pieces.{length-pieces, piece-at, pieces-front, st
 use Rattle.dvd_commands.proofs.PlanBytes.{start-all, start-blocks}
 use Rattle.dvd_commands.proofs.PlanEntries.{some_entry}
 use Rattle.dvd_commands.proofs.EntryBlocks.{done_at}
-use Rattle.dvd_commands.proofs.BorneBlocks.{repaired}
+use Rattle.dvd_commands.proofs.BlocksWithinBound.{repaired}
 
 -- the rows of a block are 182 bytes wide
 widths-of : (block : List (List ℕ)) → IsProduct block → All (λ row. length row ≡ 182) block

@@ -81,7 +81,7 @@ opened_as Loops settings bytes a o none =
           })
       | inr (full, inl (at, breaks, is)) ↦
           inr (inl (record { own = o.own; left = o.left; at = at; front = o.front; full = full; breaks = breaks; is = o.takes ∙ ap (taking o.own) is }))
-      | inr (full, inr (stated, header, lawful, loops)) ↦
+      | inr (full, inr (stated, header, valid, loops)) ↦
           inr (inr (record {
             own = o.own;
             left = o.left;
@@ -90,7 +90,7 @@ opened_as Loops settings bytes a o none =
             front = o.front;
             full = full;
             header = header;
-            none = lawful;
+            none = valid;
             loops = loops;
             is = o.takes;
           }))
@@ -176,7 +176,7 @@ pub after_header : (Loops : Runs) (Keeps : Settings → List ℕ → Outcome →
     → Opens form Loops settings bytes loop → AfterHeader form Keeps settings bytes loop
 after_header Loops Keeps loop Plain settings bytes law opens = law settings bytes loop refl opens
 after_header Loops Keeps loop Marked settings bytes law opens = law settings bytes loop refl opens
-after_header Loops Keeps loop Listed settings bytes law o = λ own left stated after front header lawful is.
+after_header Loops Keeps loop Listed settings bytes law o = λ own left stated after front header valid is.
     let full = header-size settings stated own header in
     let had : loop.taken ≡ o.own ++ o.after.taken = ap (λ (x : Outcome). x.taken) o.takes in
     let has : loop.taken ≡ own ++ after.taken = ap (λ (x : Outcome). x.taken) is in
@@ -186,7 +186,7 @@ after_header Loops Keeps loop Listed settings bytes law o = λ own left stated a
       | inl (fewer, inr ends) ↦ absurd (few fewer (ap (λ (x : Outcome). x.taken) ends))
       | inr (size, inl (at, breaks, ends)) ↦
           let same = same_front o.own own o.left left (sym o.front ∙ front) (size ∙ sym full) in
-          absurd (breaks_or_states settings stated own at (subst (λ l. BreaksHeader settings l at) same breaks) header lawful)
+          absurd (breaks_or_states settings stated own at (subst (λ l. BreaksHeader settings l at) same breaks) header valid)
       | inr (size, inr (other, opened, none, loops)) ↦
           let same = same_front o.own own o.left left (sym o.front ∙ front) (size ∙ sym full) in
           let rest = same_left o.own own o.left left (sym o.front ∙ front) same in
@@ -219,7 +219,7 @@ module _ (Loops : Runs) (there : (stated : Settings) (left : List ℕ) (a : Outc
               sym (ap (λ (x : Outcome). x.out) (o.takes ∙ ap (taking o.own) is)),
               sym (ap (λ (x : Outcome). x.lines) (o.takes ∙ ap (taking o.own) is)),
             )
-        | inr (full, inr (stated, header, lawful, loops)) ↦
+        | inr (full, inr (stated, header, valid, loops)) ↦
             let (b, so, none, same_taken, same_out, same_lines) = there stated o.left o.after loops fault in (
               taking o.own b,
               record {
@@ -227,7 +227,7 @@ module _ (Loops : Runs) (there : (stated : Settings) (left : List ℕ) (a : Outc
                 left = o.after.taken;
                 front = ap (λ (x : Outcome). x.taken) o.takes;
                 after = b;
-                comes = inr (full, inr (stated, header, lawful, so));
+                comes = inr (full, inr (stated, header, valid, so));
                 takes = refl;
               },
               none,
@@ -338,10 +338,10 @@ module _ (Loops : Runs) (settings : Settings) (bytes : List ℕ) (are : All IsBy
     },
     tt,
   )
-  onto_exists own left front full rest stated header None lawful =
-      let (after, loops, none) = some stated left rest own header lawful in (
+  onto_exists own left front full rest stated header None valid =
+      let (after, loops, none) = some stated left rest own header valid in (
         taking own after,
-        record { own = own; left = left; front = front; after = after; comes = inr (full, inr (stated, header, lawful, loops)); takes = refl },
+        record { own = own; left = left; front = front; after = after; comes = inr (full, inr (stated, header, valid, loops)); takes = refl },
         none,
       )
 

@@ -157,8 +157,8 @@ no_run_failed wanted line old new result told_whole reports = elim reports [
 ]
 
 -- A LAYOUT breaks no rule.
-lawful_layout : (settings : Settings) (layout : Layout) → IsLayoutOf settings layout → broken_rule settings ≡ None
-lawful_layout settings layout is =
+valid_layout : (settings : Settings) (layout : Layout) → IsLayoutOf settings layout → broken_rule settings ≡ None
+valid_layout settings layout is =
     let a = subst (λ s. first_fault s layout.sectors0 layout.sectors1 layout.initial layout.tail ≡ None) is.shape (no_fault layout) in
     let b = subst (λ n. first_fault settings.shape n layout.sectors1 layout.initial layout.tail ≡ None) is.sectors0 a in
     let c = subst (λ n. first_fault settings.shape settings.sectors n layout.initial layout.tail ≡ None) is.sectors1 b in
@@ -175,5 +175,5 @@ no_break Listed settings none = refl
 pub no_setting : (settings : Settings) (fault : LayoutFault) (layout : Layout) → (meaning settings.command).breaks settings ≡ broken_rule settings
     → IsLayoutOf settings layout → breaks settings ≡ Some fault → ⊥
 no_setting settings fault layout same is broken =
-    let none : breaks settings ≡ None = no_break settings.form settings (same ∙ lawful_layout settings layout is) in
+    let none : breaks settings ≡ None = no_break settings.form settings (same ∙ valid_layout settings layout is) in
     let no : None ≡ Some fault = sym none ∙ broken in cc

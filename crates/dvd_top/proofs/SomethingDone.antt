@@ -32,7 +32,7 @@ module _ (settings : Settings) (bytes : List ℕ) (six : HasBytes 6 settings.cpr
   stated_some listed stated left rest own header none =
       let same = stated-command settings stated own header in
       let cpr : stated.cpr ≡ settings.cpr = ap (λ (s : Settings). s.cpr) header.states.all in
-      goes_some stated left (subst (HasBytes 6) (sym cpr) six) rest ((facts_of stated.command).lawful stated none)
+      goes_some stated left (subst (HasBytes 6) (sym cpr) six) rest ((facts_of stated.command).valid stated none)
       (λ is. absurd (not_made settings.form settings.command listed (λ so. (addresses so).1) (sym same ∙ is)))
 
   -- so every form has one: over the blocks of a plain or a marked stream, and after the header of a listed one

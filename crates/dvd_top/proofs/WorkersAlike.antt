@@ -4,7 +4,7 @@ use Rattle.dvd_capture.specs.declared.form.Form.{Form}
 use Rattle.dvd_capture.specs.declared.form.Form.TheVariants.{Plain, Marked, Listed}
 use Rattle.dvd_loop.specs.Machine.{Outcome}
 use Rattle.dvd_loop.specs.Streams.{Streams}
-use Rattle.dvd_commands.specs.CdBound.{IsBorneSector, KeepsSectors}
+use Rattle.dvd_commands.specs.CdBound.{IsCorrectableSector, KeepsSectors}
 use Rattle.dvd_commands.specs.Commands.{GoesOver}
 use Rattle.dvd_top.specs.Headline.{IsLoop, IsRun}
 use Rattle.dvd_top.specs.Laws.{WorkersChangeNothing}
@@ -34,8 +34,8 @@ module _ (workers : ℕ) where
   comes_with settings own left after comes = elim comes [
     | inl fewer ↦ inl fewer
     | inr (full, inl (at, breaks, is)) ↦ inr (full, inl (at, breaks_with settings own at breaks, is))
-    | inr (full, inr (stated, header, lawful, goes)) ↦
-        inr (full, inr (set_workers workers stated, header_with workers settings stated own header, lawful, goes_with stated left after goes))
+    | inr (full, inr (stated, header, valid, goes)) ↦
+        inr (full, inr (set_workers workers stated, header_with workers settings stated own header, valid, goes_with stated left after goes))
   ]
 
   -- a loop over a capture of any form is one of theirs
@@ -57,7 +57,7 @@ module _ (workers : ℕ) where
   loop_with settings = opens_with settings.form settings
 
   -- a CD-ROM sector whose damage can be corrected is one of theirs
-  sector_back : {settings : Settings} {bytes user : List ℕ} {k : ℕ} → IsBorneSector (set_workers workers settings) bytes user k → IsBorneSector settings bytes user k
+  sector_back : {settings : Settings} {bytes user : List ℕ} {k : ℕ} → IsCorrectableSector (set_workers workers settings) bytes user k → IsCorrectableSector settings bytes user k
   sector_back b = record {
     asked = b.asked;
     whole = b.whole;

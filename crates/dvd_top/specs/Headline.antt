@@ -64,7 +64,7 @@ pub record IsRun (settings : Settings) (old new : Streams) (result : Status) : T
   pub bound : Rescues settings.command → AfterHeader settings.form KeepsBound settings bytes loop
   -- `recover`: likewise each sector whose twelve rows are good, in a block that two passes refuse
   pub good_frames : settings.command ≡ Recover → AfterHeader settings.form KeepsGoodFrames settings bytes loop
-  -- `cdread`: likewise each CD-ROM sector whose damage its codewords can correct (`IsBorne`) gives its user data
+  -- `cdread`: likewise each CD-ROM sector that its codewords can correct (`IsCorrectableHalf`) gives its user data
   pub sectors : settings.command ≡ CdRead → KeepsSectors settings bytes loop
 
 -- NO RUN. The report gets one line, and the status is the one wanted; or the report failed within the line.

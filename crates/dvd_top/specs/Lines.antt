@@ -2,7 +2,7 @@
 use Rattle.std.specs.Prelude.{List, ℕ, [], ◌++◌, codes, decimal}
 use Rattle.dvd_loop.specs.declared.ends.LoopEnd.{LoopEnd}
 use Rattle.dvd_loop.specs.declared.ends.LoopEnd.TheVariants.{Done, ReadFault, WriteFault, ReportFault, Short, Long, Damaged, NoControl, BadMarks, ShortHeader, BadHeader}
-use Rattle.dvd_words.specs.Table.{entry_of}
+use Rattle.dvd_words.specs.Table.{command_entry}
 use Rattle.dvd_words.specs.declared.table.Command.{Command}
 use Rattle.dvd_words.specs.declared.table.Unit.{Unit}
 use Rattle.dvd_words.specs.declared.table.Unit.TheVariants.{Sector, Block, Frame}
@@ -19,9 +19,9 @@ closing_line command Done = codes "done\n"
 closing_line command ReadFault = codes "read fault\n"
 closing_line command WriteFault = codes "write fault\n"
 closing_line command ReportFault = []
-closing_line command (Short unit bytes) = codes "short: " ++ unit_name (entry_of command).unit ++ codes " " ++ decimal unit ++ codes ", " ++ decimal bytes ++ codes " bytes\n"
+closing_line command (Short unit bytes) = codes "short: " ++ unit_name (command_entry command).unit ++ codes " " ++ decimal unit ++ codes ", " ++ decimal bytes ++ codes " bytes\n"
 closing_line command Long = codes "long\n"
-closing_line command (Damaged blocks) = codes "damaged: " ++ decimal blocks ++ codes " " ++ unit_name (entry_of command).unit ++ codes "s\n"
+closing_line command (Damaged blocks) = codes "damaged: " ++ decimal blocks ++ codes " " ++ unit_name (command_entry command).unit ++ codes "s\n"
 closing_line command NoControl = codes "no control block\n"
 closing_line command (BadMarks block at) = codes "bad marks: block " ++ decimal block ++ codes ", byte " ++ decimal at ++ codes "\n"
 closing_line command (ShortHeader bytes) = codes "short: header, " ++ decimal bytes ++ codes " bytes\n"

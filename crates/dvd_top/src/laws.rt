@@ -3,9 +3,10 @@
 ghost use Rattle.dvd_top.specs.Laws.{WhatIsDoneIsDetermined, WorkersChangeNothing, SomethingIsDone, BoundIsKept, LoopsKeepTheBound, GoodFramesAreKept, ImageIsMastered, MasteredStreamIsRecovered, CaptureIsRecovered, ConvertedIsRead};
 
 pub use dvd_commands::laws::{
-    borne_sectors_are_kept, captured_frames_are_assembled, damage_within_the_bound_is_repaired,
-    drawn_frames_are_mastered, good_frames_of_a_refused_block_are_given, image_is_taken_in_order,
-    image_is_taken_whole, info_finds_the_first_answer, the_broken_field_is_found,
+    captured_frames_are_assembled, correctable_sectors_are_kept,
+    damage_within_the_bound_is_repaired, drawn_frames_are_mastered,
+    good_frames_of_a_refused_block_are_given, image_is_taken_in_order, image_is_taken_whole,
+    info_finds_the_first_answer, the_broken_field_is_found,
 };
 
 /// What is done for an input, where no fault ends it, is determined, except for how much is read of a block that breaks

@@ -7,7 +7,7 @@ use dvd_report::Line;
 use dvd_words::{Command, Unit, unit_of};
 
 /// The line that closes the report of a run; empty where the report has failed.
-pub fn close_line(command: Command, end: LoopEnd) -> Line
+pub fn closing_line(command: Command, end: LoopEnd) -> Line
     ensures { result ≡ closing_line command end }
 {
     let mut line = Line::new();

@@ -3,7 +3,7 @@ ghost use Rattle.std.specs.Prelude.{map, string_bytes};
 ghost use Rattle.dvd_loop.specs.Streams.{streams};
 ghost use Rattle.dvd_top.specs.Headline.{Headline, Reports};
 
-use crate::lines::close_line;
+use crate::lines::closing_line;
 use crate::status::Status;
 use dvd_commands::{Refusal, Workers, perform};
 use dvd_loop::close;
@@ -36,7 +36,7 @@ pub fn run<R: Threads + Sync, S: Source, K: Sink, E: Sink, G: Gate>(
         Err(WordsFault::Usage) => refuse(Status::Usage, b"usage\n", report),
         Err(WordsFault::NoMemory) => refuse(Status::NoMemory, b"no memory\n", report),
         Ok(settings) => match perform(&Workers { rt, gate }, alloc, &settings, src, out, report) {
-            Ok(end) => close(end, close_line(settings.command, end).as_slice(), report).into(),
+            Ok(end) => close(end, closing_line(settings.command, end).as_slice(), report).into(),
             Err(Refusal::Setting(fault)) => refuse(
                 Status::Setting,
                 setting_line(fault).as_slice(),

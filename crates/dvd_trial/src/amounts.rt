@@ -2,14 +2,14 @@
 use std::alloc::Global;
 
 /// The bytes of a row, and of a row with its marks.
-pub const ROW: usize = 182;
+pub const ROW_BYTES: usize = 182;
 
-pub const MARKED_ROW: usize = 205;
+pub const MARKED_ROW_BYTES: usize = 205;
 
 /// The bytes of a block, as it is recorded, and of one in the marked form.
-pub const BLOCK: usize = 37_856;
+pub const BLOCK_BYTES: usize = 37_856;
 
-pub const MARKED_BLOCK: usize = 42_640;
+pub const MARKED_BLOCK_BYTES: usize = 42_640;
 
 /// Whether this holds, for `?`.
 pub fn is(holds: bool) -> Option<()> {
@@ -37,11 +37,11 @@ fn term(text: &str) -> Option<usize> {
     let (count, unit) = text.split_once(' ')?;
     let size = match unit.strip_suffix('s').unwrap_or(unit) {
         "byte" => 1,
-        "row" => ROW,
+        "row" => ROW_BYTES,
         "sector" => 2048,
-        "frame" => BLOCK / 16,
-        "block" => BLOCK,
-        "marked block" => MARKED_BLOCK,
+        "frame" => BLOCK_BYTES / 16,
+        "block" => BLOCK_BYTES,
+        "marked block" => MARKED_BLOCK_BYTES,
         "cdsector" => 2352,
         _ => return None,
     };
@@ -50,20 +50,20 @@ fn term(text: &str) -> Option<usize> {
 
 /// Numbers, as `3`, `0 to 15` or `0 to 206 step 2`.
 #[derive(Clone, Copy)]
-pub struct Span {
+pub struct NumberRange {
     first: usize,
     step: usize,
     pub count: usize,
 }
 
-impl Span {
-    pub fn of(text: &str) -> Option<Span> {
+impl NumberRange {
+    pub fn of(text: &str) -> Option<NumberRange> {
         let (range, step) = text.split_once(" step ").unwrap_or((text, "1"));
         let (first, last) = range.split_once(" to ").unwrap_or((range, range));
         let (first, last, step) = (number(first)?, number(last)?, number(step)?);
         let steps = last.checked_sub(first)?.checked_div(step)?;
         let count = steps.checked_add(1)?;
-        Some(Span { first, step, count })
+        Some(NumberRange { first, step, count })
     }
 
     pub fn at(self, k: usize) -> usize {
@@ -101,7 +101,7 @@ fn put_value(alloc: Global, values: &str, k: usize, spelt: &mut String) -> Optio
         spelt.push_str(values.split(", ").nth(k)?).ok()?;
         return Some(values.split(", ").count());
     }
-    let span = Span::of(values)?;
+    let span = NumberRange::of(values)?;
     is(k < span.count)?;
     let number = format!(in alloc; "{}", span.at(k)).ok()?;
     spelt.push_str(number.as_str()).ok()?;

@@ -1,5 +1,5 @@
 //! Bytes of a capture that are lost, wrong or doubtful, at places of its blocks.
-use crate::amounts::{BLOCK, MARKED_ROW, ROW, Span, byte, is, number};
+use crate::amounts::{BLOCK_BYTES, MARKED_ROW_BYTES, NumberRange, ROW_BYTES, byte, is, number};
 
 /// What happens to a byte: these bits of it are kept, and then those inverted. In the marked form it also gets a mark,
 // or none.
@@ -12,9 +12,9 @@ struct Hit {
 
 #[derive(Clone, Copy)]
 struct Places {
-    blocks: Span,
-    rows: Span,
-    bytes: Span,
+    blocks: NumberRange,
+    rows: NumberRange,
+    bytes: NumberRange,
     // How many bytes further the bytes are in each row than in the one before.
     shift: usize,
     // The length of the sectors that are hit in place of rows, or 0.
@@ -22,7 +22,7 @@ struct Places {
 }
 
 /// Does `verb: rest`, as `wrong by 55: block 1, rows 3 to 7, bytes 0 to 9; row 9`, where all of it is spelt so.
-pub fn damage(verb: &str, rest: &str, bytes: &mut [u8]) -> Option<()> {
+pub fn damage_bytes(verb: &str, rest: &str, bytes: &mut [u8]) -> Option<()> {
     let valued = verb.split_once(" by ").or(verb.split_once(" as "));
     let (kind, value) = valued.unwrap_or((verb, "00"));
     let turned = byte(value)?;
@@ -42,16 +42,16 @@ pub fn damage(verb: &str, rest: &str, bytes: &mut [u8]) -> Option<()> {
 
 fn read_places(text: &str) -> Option<Places> {
     let mut places = Places {
-        blocks: Span::of("0 to 600")?,
-        rows: Span::of("0 to 207")?,
-        bytes: Span::of("0 to 2351")?,
+        blocks: NumberRange::of("0 to 600")?,
+        rows: NumberRange::of("0 to 207")?,
+        bytes: NumberRange::of("0 to 2351")?,
         shift: 0,
         sector: 0,
     };
     for part in text.split(", ") {
         let (name, numbers) = part.split_once(' ')?;
         let (numbers, shift) = numbers.split_once(" shifted ").unwrap_or((numbers, "0"));
-        let (span, shift) = (Span::of(numbers)?, number(shift)?);
+        let (span, shift) = (NumberRange::of(numbers)?, number(shift)?);
         places.shift = places.shift.max(shift);
         match name.strip_suffix('s').unwrap_or(name) {
             "block" => places.blocks = span,
@@ -60,7 +60,11 @@ fn read_places(text: &str) -> Option<Places> {
             "sector" => (places.rows, places.sector) = (span, 2048),
             "cdsector" => (places.rows, places.sector) = (span, 2352),
             "place" => {
-                (places.bytes, places.rows, places.sector) = (span, Span::of("0")?, usize::MAX)
+                (places.bytes, places.rows, places.sector) = (
+                    span,
+                    NumberRange::of("0")?,
+                    usize::MAX,
+                )
             }
             _ => return None,
         }
@@ -72,14 +76,14 @@ fn hit_places(places: &Places, hit: Hit, bytes: &mut [u8]) -> Option<()> {
     let blocks = if places.sector > 0 {
         1
     } else {
-        bytes.len() / BLOCK + 1
+        bytes.len() / BLOCK_BYTES + 1
     };
     for k in 0..places.blocks.count.min(blocks) {
         for i in 0..places.rows.count {
             hit_row(places, places.blocks.at(k), i, hit, bytes);
         }
     }
-    is(places.sector > 0 || bytes.len() % ROW == 0 || bytes.len() % MARKED_ROW == 0)
+    is(places.sector > 0 || bytes.len() % ROW_BYTES == 0 || bytes.len() % MARKED_ROW_BYTES == 0)
 }
 
 fn hit_row(places: &Places, block: usize, i: usize, hit: Hit, bytes: &mut [u8]) {
@@ -87,7 +91,7 @@ fn hit_row(places: &Places, block: usize, i: usize, hit: Hit, bytes: &mut [u8]) 
         (places.rows.at(i), places.sector)
     } else {
         let first = block.saturating_mul(208);
-        (first.saturating_add(recorded(places.rows.at(i))), ROW)
+        (first.saturating_add(recorded(places.rows.at(i))), ROW_BYTES)
     };
     let shift = i.saturating_mul(places.shift);
     for k in 0..places.bytes.count.min(length) {
@@ -114,10 +118,10 @@ fn hit_at(row: usize, at: usize, length: usize, hit: Hit, bytes: &mut [u8]) {
         change(bytes, place, hit.kept, hit.turned);
         return;
     };
-    let first = row.saturating_mul(MARKED_ROW);
+    let first = row.saturating_mul(MARKED_ROW_BYTES);
     let bit = 0x80 >> (at % 8);
     change(bytes, first.saturating_add(at), hit.kept, hit.turned);
-    let place = first.saturating_add(ROW + at / 8);
+    let place = first.saturating_add(ROW_BYTES + at / 8);
     change(bytes, place, !bit, if mark { bit } else { 0 });
 }
 

@@ -1,7 +1,7 @@
 //! What a test ends with, and what is printed where the result isn't the one expected.
-use crate::amounts::{MARKED_ROW, ROW};
+use crate::amounts::{MARKED_ROW_BYTES, ROW_BYTES};
 use crate::damage::recorded;
-use crate::trial::Trial;
+use crate::trial::TrialState;
 use std::thread::Threads;
 
 /// Everything holds, or what doesn't.
@@ -9,7 +9,7 @@ pub type Held = Result<(), &'static str>;
 
 /// Whether what each line of the text says holds. Where one doesn't, prints it, what was run and what came.
 pub fn hold<R: AllocGlobal + Threads + Sync + Eprint>(rt: &R, text: &str) -> Held {
-    let mut trial = Trial::new(rt);
+    let mut trial = TrialState::new(rt);
     if trial.holds(text).is_none() {
         print(rt, &trial);
         return Err("a line of the text doesn't hold");
@@ -19,12 +19,12 @@ pub fn hold<R: AllocGlobal + Threads + Sync + Eprint>(rt: &R, text: &str) -> Hel
 
 /// Whether a line of the text doesn't hold. Nothing is printed.
 pub fn fails<R: AllocGlobal + Threads + Sync>(rt: &R, text: &str) -> bool {
-    Trial::new(rt).holds(text).is_none()
+    TrialState::new(rt).holds(text).is_none()
 }
 
 // The arguments that ran last, their result, and where the output first differs from the wanted one: as an image, and as
 // a capture of both forms.
-fn print<R: Eprint>(rt: &R, trial: &Trial<R>) {
+fn print<R: Eprint>(rt: &R, trial: &TrialState<R>) {
     let words = trial.words.split(" or ").nth(trial.last).unwrap_or("");
     let (line, left) = (trial.line.as_str(), &trial.left);
     let (status, length) = (left.status, left.output.len());
@@ -37,8 +37,8 @@ fn print<R: Eprint>(rt: &R, trial: &Trial<R>) {
         if *wanted != *came {
             let (sector, byte) = (at / 2048, at % 2048);
             let _ = eprintln!(rt; "byte {at} is {came} for {wanted}: sector {sector}, byte {byte}");
-            print_place(rt, "plain", at / ROW, at % ROW);
-            print_place(rt, "marked", at / MARKED_ROW, at % MARKED_ROW);
+            print_place(rt, "plain", at / ROW_BYTES, at % ROW_BYTES);
+            print_place(rt, "marked", at / MARKED_ROW_BYTES, at % MARKED_ROW_BYTES);
             return;
         }
     }

@@ -1,17 +1,19 @@
 //! The steps by which bytes are made. Each adds bytes to those before it or changes them.
-use crate::amounts::{BLOCK, MARKED_BLOCK, MARKED_ROW, ROW, amount, byte, is, number};
-use crate::damage::damage;
+use crate::amounts::{
+    BLOCK_BYTES, MARKED_BLOCK_BYTES, MARKED_ROW_BYTES, ROW_BYTES, amount, byte, is, number,
+};
+use crate::damage::damage_bytes;
 use std::alloc::Global;
 
 /// Does a step that runs nothing, where there is such a step, and memory.
-pub fn step(alloc: Global, text: &str, bytes: &mut Vec<u8>) -> Option<()> {
+pub fn do_step(alloc: Global, text: &str, bytes: &mut Vec<u8>) -> Option<()> {
     let text = text.strip_prefix("then ").unwrap_or(text);
     let (verb, rest) = text.split_once(' ').unwrap_or((text, ""));
     match verb {
         "nothing" | "as" => Some(()),
         "image" => add_image(amount(rest.strip_prefix("of ")?)?, bytes),
         "counted" => add_counted(bytes),
-        "hex" => add(bytes, &hex::decode(alloc, rest).ok()?),
+        "hex" => append_bytes(bytes, &hex::decode(alloc, rest).ok()?),
         "lines" => add_lines(bytes, rest),
         "marked" => add_marks(alloc, bytes),
         "listed" => list(alloc, bytes, rest),
@@ -22,7 +24,7 @@ pub fn step(alloc: Global, text: &str, bytes: &mut Vec<u8>) -> Option<()> {
         "cut" => move_bytes(verb, amount(rest.strip_prefix("off ")?)?, bytes),
         "repeat" => move_bytes(verb, amount(rest.strip_prefix("the last ")?)?, bytes),
         _ => match text.split_once(": ") {
-            Some((kind, places)) => damage(kind, places, bytes),
+            Some((kind, places)) => damage_bytes(kind, places, bytes),
             None => add_value(bytes, text),
         },
     }
@@ -40,15 +42,15 @@ fn move_bytes(verb: &str, count: usize, bytes: &mut Vec<u8>) -> Option<()> {
 }
 
 /// Adds these bytes, where there is memory.
-pub fn add(bytes: &mut Vec<u8>, more: &[u8]) -> Option<()> {
+pub fn append_bytes(bytes: &mut Vec<u8>, more: &[u8]) -> Option<()> {
     bytes.extend_from_slice(more).ok()
 }
 
 /// Adds lines, after each of which but the last one comes a `/`.
 pub fn add_lines(bytes: &mut Vec<u8>, text: &str) -> Option<()> {
     for line in text.split('/') {
-        add(bytes, line.as_bytes())?;
-        add(bytes, b"\n")?;
+        append_bytes(bytes, line.as_bytes())?;
+        append_bytes(bytes, b"\n")?;
     }
     Some(())
 }
@@ -91,7 +93,7 @@ fn add_counted(bytes: &mut Vec<u8>) -> Option<()> {
 
 fn reverse(bytes: &mut [u8]) -> Option<()> {
     bytes.reverse();
-    for frame in bytes.chunks_exact_mut(BLOCK / 16) {
+    for frame in bytes.chunks_exact_mut(BLOCK_BYTES / 16) {
         frame.reverse();
     }
     Some(())
@@ -100,11 +102,11 @@ fn reverse(bytes: &mut [u8]) -> Option<()> {
 // Each row gets its marks after it, none of which is set.
 fn add_marks(alloc: Global, bytes: &mut Vec<u8>) -> Option<()> {
     let mut marked = Vec::new(alloc);
-    for row in bytes.chunks_exact(ROW) {
-        add(&mut marked, row)?;
-        add(&mut marked, &[0; MARKED_ROW - ROW])?;
+    for row in bytes.chunks_exact(ROW_BYTES) {
+        append_bytes(&mut marked, row)?;
+        append_bytes(&mut marked, &[0; MARKED_ROW_BYTES - ROW_BYTES])?;
     }
-    is(bytes.len() % BLOCK == 0)?;
+    is(bytes.len() % BLOCK_BYTES == 0)?;
     *bytes = marked;
     Some(())
 }
@@ -112,10 +114,10 @@ fn add_marks(alloc: Global, bytes: &mut Vec<u8>) -> Option<()> {
 fn weave(alloc: Global, bytes: &mut Vec<u8>) -> Option<()> {
     let mut woven = Vec::new(alloc);
     let (first, second) = bytes.split_at(bytes.len() / 2);
-    let seconds = second.chunks_exact(MARKED_BLOCK);
-    for (one, other) in first.chunks_exact(MARKED_BLOCK).zip(seconds) {
-        add(&mut woven, one)?;
-        add(&mut woven, other)?;
+    let seconds = second.chunks_exact(MARKED_BLOCK_BYTES);
+    for (one, other) in first.chunks_exact(MARKED_BLOCK_BYTES).zip(seconds) {
+        append_bytes(&mut woven, one)?;
+        append_bytes(&mut woven, other)?;
     }
     *bytes = woven;
     Some(())
@@ -124,7 +126,7 @@ fn weave(alloc: Global, bytes: &mut Vec<u8>) -> Option<()> {
 // A row is lost with all its marks, the two spare ones too, or a byte of it is wrong.
 fn draw_rows(capture: &mut [u8], seed: usize) -> Option<()> {
     let mut generator = Generator(seed as u64);
-    for row in capture.chunks_exact_mut(MARKED_ROW) {
+    for row in capture.chunks_exact_mut(MARKED_ROW_BYTES) {
         let drawn = generator.draw();
         if drawn >> 56 < 43 {
             row.fill(0xFF);
@@ -140,8 +142,8 @@ fn list(alloc: Global, bytes: &mut Vec<u8>, text: &str) -> Option<()> {
     let (header, runs) = text.split_once(" runs ").unwrap_or((text, ""));
     let mut listed = Vec::new(alloc);
     add_header(&mut listed, header)?;
-    for block in bytes.chunks_exact(BLOCK) {
-        add(&mut listed, block)?;
+    for block in bytes.chunks_exact(BLOCK_BYTES) {
+        append_bytes(&mut listed, block)?;
         add_runs(&mut listed, runs)?;
     }
     *bytes = listed;
@@ -155,16 +157,16 @@ fn add_header(listed: &mut Vec<u8>, text: &str) -> Option<()> {
     for number in &mut numbers {
         *number = words.next()?;
     }
-    add(listed, b"DVDECC\x00\x02")?;
+    append_bytes(listed, b"DVDECC\x00\x02")?;
     let [shape, zones] = [numbers[0], numbers[1]];
-    add(
+    append_bytes(
         listed,
         &[u8::try_from(shape).ok()?, u8::try_from(zones).ok()?, 0, 0],
     )?;
     for number in &numbers[2..] {
-        add(listed, &u32::try_from(*number).ok()?.to_be_bytes())?;
+        append_bytes(listed, &u32::try_from(*number).ok()?.to_be_bytes())?;
     }
-    add(listed, &[0; 4])
+    append_bytes(listed, &[0; 4])
 }
 
 fn add_runs(listed: &mut Vec<u8>, text: &str) -> Option<()> {
@@ -179,5 +181,5 @@ fn add_runs(listed: &mut Vec<u8>, text: &str) -> Option<()> {
 }
 
 fn add_number(listed: &mut Vec<u8>, number: usize) -> Option<()> {
-    add(listed, &u16::try_from(number).ok()?.to_be_bytes())
+    append_bytes(listed, &u16::try_from(number).ok()?.to_be_bytes())
 }

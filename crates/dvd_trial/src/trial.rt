@@ -1,6 +1,6 @@
 //! The lines of a text: which bytes are made, which arguments are run, and what has to come.
 use crate::amounts::{amount, is, spell};
-use crate::made::{add, add_lines, step};
+use crate::made::{add_lines, append_bytes, do_step};
 use crate::runs::{Left, run_over};
 use crate::streams::{Plan, SOUND};
 use dvd_par::OpenGate;
@@ -12,7 +12,7 @@ use std::thread::Threads;
 
 /// What a text works with.
 #[derive(Drop)]
-pub struct Trial<'a, R> {
+pub struct TrialState<'a, R> {
     pub rt: &'a R,
     pub alloc: Global,
     /// The line that didn't hold.
@@ -36,13 +36,13 @@ pub struct Trial<'a, R> {
 
 /// The bytes that these steps make, from none.
 pub fn bytes_of<R: AllocGlobal + Threads + Sync>(rt: &R, text: &str) -> Option<Vec<u8>> {
-    Trial::new(rt).made(text, Vec::new(rt.alloc()))
+    TrialState::new(rt).made(text, Vec::new(rt.alloc()))
 }
 
-impl<'a, R: AllocGlobal + Threads + Sync> Trial<'a, R> {
-    pub fn new(rt: &'a R) -> Trial<'a, R> {
+impl<'a, R: AllocGlobal + Threads + Sync> TrialState<'a, R> {
+    pub fn new(rt: &'a R) -> TrialState<'a, R> {
         let alloc = rt.alloc();
-        Trial {
+        TrialState {
             rt,
             alloc,
             line: String::new(alloc),
@@ -146,8 +146,8 @@ impl<'a, R: AllocGlobal + Threads + Sync> Trial<'a, R> {
                     swap(&mut bytes, &mut self.left.output);
                     is(self.left.status == Status::Done && bytes.len() == amount(length)?)?;
                 }
-                None if part == "given" => add(&mut bytes, &self.given)?,
-                None => step(self.alloc, part, &mut bytes)?,
+                None if part == "given" => append_bytes(&mut bytes, &self.given)?,
+                None => do_step(self.alloc, part, &mut bytes)?,
             }
         }
         Some(bytes)

@@ -4,12 +4,12 @@ use crate::gate::Counting;
 use crate::runs::{Left, run_over};
 use crate::streams::StreamCall::{self, Flush, FlushReport, Read, Report, Write};
 use crate::streams::{Plan, SOUND};
-use crate::trial::Trial;
+use crate::trial::TrialState;
 use dvd_par::OpenGate;
 use dvd_top::Status;
 use std::thread::Threads;
 
-impl<'a, R: AllocGlobal + Threads + Sync> Trial<'a, R> {
+impl<'a, R: AllocGlobal + Threads + Sync> TrialState<'a, R> {
     /// `700 bytes a call`, which `, call 2 fails` may follow: what the streams of the next run do.
     pub fn set_plan(&mut self, verb: &str, text: &str) -> Option<()> {
         let (step, rest) = text.split_once(" a call")?;

@@ -7,7 +7,7 @@ use Rattle.dvd_capture.specs.declared.form.Form.{Form}
 use Rattle.dvd_capture.specs.declared.form.Form.TheVariants.{Plain, Listed}
 use Rattle.dvd_layout.specs.declared.layout.Shape.TheVariants.{Single}
 use Rattle.dvd_layout.specs.declared.layout.Zones.TheVariants.{DataOnly}
-use Rattle.dvd_words.specs.Table.{all, app_for, entry_of}
+use Rattle.dvd_words.specs.Table.{all, app_for, command_entry}
 use Rattle.dvd_words.specs.Words.{hex_bytes, form_of, number_in, number_within, sector_number_of, shape_of, zones_of}
 use Rattle.dvd_words.specs.declared.table.Command.{Command}
 use Rattle.dvd_words.specs.declared.table.Command.TheVariants.{Frames, Exercise, CdMake, CdRead, Assemble}
@@ -22,7 +22,7 @@ o >>= f = option_and_then f o
 
 -- the command that an argument names
 abbrev pub command_of : Text → Option Command
-command_of word = find (λ command. bytes_eq word (entry_of command).name) all
+command_of word = find (λ command. bytes_eq word (command_entry command).name) all
 
 -- the options and their values, where clap finds no fault in the arguments
 abbrev pub rows_by : App → List Text → Option (List Row)
@@ -57,12 +57,12 @@ tells_layout rows =
 
 -- the commands that read listed captures
 abbrev pub takes_listed : Command → Bool
-takes_listed command = (entry_of command).takes_listed
+takes_listed command = (command_entry command).takes_listed
 
 -- The layout is stated once: a listed capture states its own, and then no option may; else the arguments state it.
 abbrev pub has_layout : Command → Form → List Row → Bool
 has_layout command Listed rows = takes_listed command && not (tells_layout rows)
-has_layout command other rows = not (entry_of command).sectors_or_listed || is_given (codes "sectors") rows
+has_layout command other rows = not (command_entry command).sectors_or_listed || is_given (codes "sectors") rows
 
 -- each option by its form, the layout stated once, and the limit of the command kept
 unfoldable pub settings_of : Command → List Row → Option Settings
@@ -82,7 +82,7 @@ settings_of command rows = do
   address ← value_or 0 number_in (first_of (codes "address") rows)
   captures ← value_or 0 (number_within 2 16) (first_of (codes "captures") rows)
   frames ← value_or 0 (number_within 1 4294967295) (first_of (codes "frames") rows)
-  if has_layout command form rows && is_within (entry_of command).limit first sectors sectors1 blocks address then Some (record {
+  if has_layout command form rows && is_within (command_entry command).limit first sectors sectors1 blocks address then Some (record {
     command = command;
     first = first;
     sectors = sectors;
@@ -114,7 +114,7 @@ abbrev pub Reads : List Text → Settings → Type 0
 Reads words settings = reading words ≡ Some settings
 
 -- what holds of all settings that arguments ask for
-pub record IsLawful (settings : Settings) : Type 0 where
+pub record IsValid (settings : Settings) : Type 0 where
   pub some_worker : 1 ≤ settings.workers
   pub few_workers : settings.workers ≤ 16
   pub some_block : settings.command ≡ Exercise → 1 ≤ settings.blocks

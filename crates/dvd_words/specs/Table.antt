@@ -50,21 +50,21 @@ row name unit listed or_listed limit options = record {
 }
 
 -- the row of each command
-abbrev pub entry_of : Command → Entry
-entry_of Frames = row "frames" Sector false false Numbers (must ("first" ∷ "sectors" ∷ []))
-entry_of Master = row "master" Block false false Any (must ("sectors" ∷ []) ++ may (layout ++ "workers" ∷ "cpr" ∷ []))
-entry_of Recover = row "recover" Block true true Any (may ("sectors" ∷ layout ++ "workers" ∷ "form" ∷ []))
-entry_of Info = row "info" Block true false Any (may ("initial" ∷ "form" ∷ []))
-entry_of Survey = row "survey" Block true true Any (may ("sectors" ∷ layout ++ "workers" ∷ "form" ∷ []))
-entry_of Exercise = row "exercise" Block false false Blocks (must ("seed" ∷ "blocks" ∷ []) ++ may ("workers" ∷ []))
-entry_of CdMake = row "cdmake" Sector false false Addresses (must ("address" ∷ "sectors" ∷ []))
-entry_of CdRead = row "cdread" Sector false false Addresses (must ("address" ∷ "sectors" ∷ []))
-entry_of Merge = row "merge" Block false false Any
+abbrev pub command_entry : Command → Entry
+command_entry Frames = row "frames" Sector false false Numbers (must ("first" ∷ "sectors" ∷ []))
+command_entry Master = row "master" Block false false Any (must ("sectors" ∷ []) ++ may (layout ++ "workers" ∷ "cpr" ∷ []))
+command_entry Recover = row "recover" Block true true Any (may ("sectors" ∷ layout ++ "workers" ∷ "form" ∷ []))
+command_entry Info = row "info" Block true false Any (may ("initial" ∷ "form" ∷ []))
+command_entry Survey = row "survey" Block true true Any (may ("sectors" ∷ layout ++ "workers" ∷ "form" ∷ []))
+command_entry Exercise = row "exercise" Block false false Blocks (must ("seed" ∷ "blocks" ∷ []) ++ may ("workers" ∷ []))
+command_entry CdMake = row "cdmake" Sector false false Addresses (must ("address" ∷ "sectors" ∷ []))
+command_entry CdRead = row "cdread" Sector false false Addresses (must ("address" ∷ "sectors" ∷ []))
+command_entry Merge = row "merge" Block false false Any
     (must ("sectors" ∷ []) ++ may (layout ++ "form" ∷ []) ++ must ("captures" ∷ []))
-entry_of Deep = row "deep" Block true true Any (may ("sectors" ∷ layout ++ "form" ∷ []))
-entry_of Assemble = row "assemble" Frame false false WholeDisk
+command_entry Deep = row "deep" Block true true Any (may ("sectors" ∷ layout ++ "form" ∷ []))
+command_entry Assemble = row "assemble" Frame false false WholeDisk
     (must ("sectors" ∷ "frames" ∷ []) ++ may ("sectors1" ∷ "shape" ∷ "form" ∷ []))
-entry_of Convert = row "convert" Block false false Any (must ("sectors" ∷ []) ++ may (layout ++ "form" ∷ []))
+command_entry Convert = row "convert" Block false false Any (must ("sectors" ∷ []) ++ may (layout ++ "form" ∷ []))
 
 -- the commands
 abbrev pub all : List Command
@@ -73,6 +73,6 @@ all = Frames ∷ Master ∷ Recover ∷ Info ∷ Survey ∷ Exercise ∷ CdMake 
 -- a command as clap reads it: its word, its options and nothing else, without a flag for help
 abbrev pub app_for : Command → App
 app_for command = record {
-  top = record (new_shape (entry_of command).name) { rules = (entry_of command).options; disable_help_flag = true };
+  top = record (new_shape (command_entry command).name) { rules = (command_entry command).options; disable_help_flag = true };
   subs = [];
 }

@@ -49,7 +49,7 @@ impl Settings {
     /// that the same lengths break the same first rule.
     pub fn layout(&self) -> Result<Layout, LayoutFault>
         ensures lengths { IfOk result (IsLayoutOf self.now) }
-        ensures lawful { IsOk result → broken_rule self.now ≡ None }
+        ensures valid { IsOk result → broken_rule self.now ≡ None }
         ensures refused { IfErr result (λ fault. broken_rule self.now ≡ Some fault) }
     {
         Layout::new(

@@ -5,7 +5,7 @@ ghost use Rattle.std.specs.Prelude.{◌≡◌, true};
 ghost use Rattle.clap.specs.Words.{is_simple_and_free};
 ghost use Rattle.dvd_words.specs.Inner.Rows.{entry, named_in};
 ghost use Rattle.dvd_words.specs.Reading.{command_of};
-ghost use Rattle.dvd_words.specs.Table.{app_for, entry_of};
+ghost use Rattle.dvd_words.specs.Table.{app_for, command_entry};
 
 /// The commands of the program.
 #[derive(Clone, Copy, Debug, PartialEq, Eq)]
@@ -131,7 +131,7 @@ static COMMANDS: [CommandSpec<'static>; 12] = rows! {
 
 /// The row of a command. That clap reads each row exactly is ensured here, where it is proved by computing.
 pub fn spec_of<'a>(command: Command) -> &'a CommandSpec<'a>
-    ensures row { entry result.now ≡ entry_of command }
+    ensures row { entry result.now ≡ command_entry command }
     ensures free { is_simple_and_free (app_for command) ≡ true }
 {
     &COMMANDS[command as usize]
@@ -139,7 +139,7 @@ pub fn spec_of<'a>(command: Command) -> &'a CommandSpec<'a>
 
 /// What a command goes over.
 pub fn unit_of(command: Command) -> Unit
-    ensures { result ≡ (entry_of command).unit }
+    ensures { result ≡ (command_entry command).unit }
 {
     spec_of(command).unit
 }

@@ -3,7 +3,7 @@
 
 ghost use Rattle.std.specs.Prelude.{◌≡◌, ◌+◌, None, IfOk, IfSome, map, option_map, string_bytes};
 ghost use Rattle.clap.specs.Words.{first_of, found_of, rows_of};
-ghost use Rattle.dvd_words.specs.Reading.{IsLawful, Reads, has_layout, is_given, is_within, tells_layout, reading, settings_of};
+ghost use Rattle.dvd_words.specs.Reading.{IsValid, Reads, has_layout, is_given, is_within, tells_layout, reading, settings_of};
 
 use crate::fault::WordsFault;
 use crate::parser::parse;
@@ -22,7 +22,7 @@ use std::alloc::Global;
 pub fn read(alloc: Global, words: &[String]) -> Result<Settings, WordsFault>
     ensures read { IfOk result (Reads (map string_bytes words.now)) }
     ensures usage { result ≡ Err WordsFault.Usage → reading (map string_bytes words.now) ≡ None }
-    ensures lawful { IfOk result IsLawful }
+    ensures valid { IfOk result IsValid }
 {
     let Some(word) = words.first() else {
         return Err(WordsFault::Usage);
@@ -40,7 +40,7 @@ pub fn read(alloc: Global, words: &[String]) -> Result<Settings, WordsFault>
 #[tactic(auto, unfolding(crate::specs::Reading::settings_of))]
 fn settings(command: Command, matches: &ArgMatches<'_>) -> Option<Settings>
     ensures value { result ≡ settings_of command (rows_of (found_of matches.now)) }
-    ensures lawful { IfSome result IsLawful }
+    ensures valid { IfSome result IsValid }
 {
     let settings = Settings {
         command,

@@ -46,8 +46,8 @@ block_or None block before = block
 block_or (Some cause) block before = before
 
 -- the same by the rows' answers
-abbrev pub with_block : List (Option (List ℕ)) → List (List ℕ) → List (List ℕ)
-with_block answers before = block_or (two_pass_cause answers) (block_found answers) before
+abbrev pub block_by_answers : List (Option (List ℕ)) → List (List ℕ) → List (List ℕ)
+block_by_answers answers before = block_or (two_pass_cause answers) (block_found answers) before
 
 -- the report by the cause, if there is one
 abbrev pub report_of : Option Cause → List (List ℕ) → List (Option (List ℕ)) → Report

@@ -26,9 +26,9 @@ with_scrambling None id main = main
 with_scrambling (Some rule) id main = masked id rule main
 
 -- the frame of a rule, if there is one, or what was in its place
-abbrev pub with_frame : Option Rule → ℕ → List ℕ → List ℕ → List ℕ → List ℕ
-with_frame None id cpr main before = before
-with_frame (Some rule) id cpr main before = data_frame id cpr rule main
+abbrev pub frame_or : Option Rule → ℕ → List ℕ → List ℕ → List ℕ → List ℕ
+frame_or None id cpr main before = before
+frame_or (Some rule) id cpr main before = data_frame id cpr rule main
 
 -- the status of a cause
 abbrev pub cause_status : Option FrameCause → ℕ

@@ -64,9 +64,9 @@ read_sectors (Err status) rows marks before = before
 read_sectors (Ok entry) rows marks before = block_or (block_cause rows marks entry) (main_data (block_in rows marks) entry) before
 
 -- the report of what was received
-abbrev pub read_report : Result BlockPlan ℕ → List (List ℕ) → List (List Bool) → Report → Report
-read_report (Err status) rows marks before = before
-read_report (Ok entry) rows marks before = report_of (block_cause rows marks entry) rows (answers_of rows marks)
+abbrev pub report_read : Result BlockPlan ℕ → List (List ℕ) → List (List Bool) → Report → Report
+report_read (Err status) rows marks before = before
+report_read (Ok entry) rows marks before = report_of (block_cause rows marks entry) rows (answers_of rows marks)
 
 -- the sectors that are salvaged of what was received
 abbrev pub salvaged_sectors : Result BlockPlan ℕ → List (List ℕ) → List (List Bool) → List (List ℕ) → List (List ℕ)

@@ -8,7 +8,7 @@ ghost use Rattle.dvd_capture.specs.Works.{block_of, marks_of_work, rows_of, stag
 ghost use Rattle.dvd_capture.specs.declared.form.Form.TheVariants.{Marked};
 ghost use Rattle.dvd_capture.specs.declared.stage.Stage.TheVariants.{Fetched, Fixed as StageFixed};
 ghost use Rattle.dvd_decoding.specs.Causes.{two_pass_cause};
-ghost use Rattle.dvdecc_c.specs.Blocks.{block_status, captured_answers, cause_number, cause_status, with_block, with_report};
+ghost use Rattle.dvdecc_c.specs.Blocks.{block_status, captured_answers, cause_number, cause_status, block_by_answers, with_report};
 
 use crate::status;
 use dvd_block::parts::{fill_parity, is_product};
@@ -56,7 +56,7 @@ pub extern "C" fn dvdecc_two_pass(
     report: &mut Report,
 ) -> u32
     ensures status { result ≢ 2 → result ≡ block_status (two_pass_cause (captured_answers capture.now)) }
-    ensures rows { result ≢ 2 → rows.new ≡ with_block (captured_answers capture.now) rows.old }
+    ensures rows { result ≢ 2 → rows.new ≡ block_by_answers (captured_answers capture.now) rows.old }
     ensures report { result ≢ 2 → report.new ≡ with_report (captured_rows Marked capture.now) (captured_answers capture.now) }
     ensures same_rows { result ≡ 2 → rows.new ≡ rows.old }
     ensures same_report { result ≡ 2 → report.new ≡ report.old }
@@ -82,7 +82,7 @@ pub(crate) fn receive(capture: &[u8; 42640], work: &mut Work)
 fn decode_received(work: &mut Work, rows: &mut [[u8; 182]; 208], report: &mut Report) -> u32
     requires { stage_of work.old ≡ Fetched }
     ensures status { result ≡ block_status (two_pass_cause (answers_of (rows_of work.old) (marks_of_work work.old))) }
-    ensures rows { rows.new ≡ with_block (answers_of (rows_of work.old) (marks_of_work work.old)) rows.old }
+    ensures rows { rows.new ≡ block_by_answers (answers_of (rows_of work.old) (marks_of_work work.old)) rows.old }
     ensures report { report.new ≡ with_report (rows_of work.old) (answers_of (rows_of work.old) (marks_of_work work.old)) }
 {
     match two_pass(work) {

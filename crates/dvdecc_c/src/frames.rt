@@ -1,7 +1,7 @@
 //! Scrambling (ECMA-267, 17) and data frames (16). A rule is given by its number, and one that isn't known is refused
 //! before anything is written.
 ghost use Rattle.std.specs.Prelude.{◌≡◌};
-ghost use Rattle.dvdecc_c.specs.Frames.{rule_numbered, rule_status, with_scrambling, with_frame, reading_status, with_main, with_found};
+ghost use Rattle.dvdecc_c.specs.Frames.{rule_numbered, rule_status, with_scrambling, frame_or, reading_status, with_main, with_found};
 
 use crate::status;
 use dvd_frame::{FrameCause, Id, Rule};
@@ -29,7 +29,7 @@ pub extern "C" fn dvdecc_make_frame(
     frame: &mut [u8; 2064],
 ) -> u32
     ensures status { result ≡ rule_status (rule_numbered rule) }
-    ensures frame { frame.new ≡ with_frame (rule_numbered rule) id cpr.now main_data.now frame.old }
+    ensures frame { frame.new ≡ frame_or (rule_numbered rule) id cpr.now main_data.now frame.old }
 {
     let Some(which) = numbered(rule) else {
         return status::BAD_RULE;

@@ -12,7 +12,7 @@ ghost use Rattle.dvd_decoding.specs.Frames.{main_data};
 ghost use Rattle.dvd_decoding.specs.Salvage.{block_out};
 ghost use Rattle.dvd_layout.specs.Place.{HasNumbers};
 ghost use Rattle.dvdecc_c.specs.Blocks.{block_or, block_status, report_of};
-ghost use Rattle.dvdecc_c.specs.Reading.{asked_block, asked_status, HasAsked, read_report, read_sectors, read_status, salvaged_frames, salvaged_sectors, saved_frames};
+ghost use Rattle.dvdecc_c.specs.Reading.{asked_block, asked_status, HasAsked, report_read, read_sectors, read_status, salvaged_frames, salvaged_sectors, saved_frames};
 
 use crate::blocks::{Report, receive, report_cause, report_found};
 use crate::status;
@@ -39,7 +39,7 @@ pub extern "C" fn dvdecc_read_block(
 ) -> u32
     ensures status { result ≢ 2 → result ≡ read_status (asked_block id rule) (captured_rows Marked capture.now) (captured_marks Marked capture.now) }
     ensures sectors { result ≢ 2 → sectors.new ≡ read_sectors (asked_block id rule) (captured_rows Marked capture.now) (captured_marks Marked capture.now) sectors.old }
-    ensures report { result ≢ 2 → report.new ≡ read_report (asked_block id rule) (captured_rows Marked capture.now) (captured_marks Marked capture.now) report.old }
+    ensures report { result ≢ 2 → report.new ≡ report_read (asked_block id rule) (captured_rows Marked capture.now) (captured_marks Marked capture.now) report.old }
     ensures same_sectors { result ≡ 2 → sectors.new ≡ sectors.old }
     ensures same_report { result ≡ 2 → report.new ≡ report.old }
     ensures asked { result ≡ 2 → asked_status (asked_block id rule) ≡ 0 }

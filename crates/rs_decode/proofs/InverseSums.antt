@@ -7,7 +7,7 @@ use Rattle.coding.specs.Words.{IsByte}
 use Rattle.gf_field.proofs.FieldLaws.{one-product, plus-byte, plus-self, plus-zero_same, plus-product, power-byte, product-assoc, product-byte, product-comm, product-one, product-zero, zero-product}
 use Rattle.rs_code.specs.Inner.PowerSums.{AreDistinct, power_sum}
 use Rattle.rs_decode.specs.Register.{total}
-use Rattle.rs_decode.specs.Inner.Inverse.{HasSums, IsInverse, row_at}
+use Rattle.rs_decode.specs.Inner.Inverse.{HasSums, IsInverse, row_sum}
 use Rattle.rs_decode.proofs.Roots.{no_coefficient}
 use Rattle.rs_decode.proofs.Totals.{total-byte, total-exchange, total-front, total-none, total-plus, total-product, total-same, total-single}
 
@@ -77,7 +77,7 @@ power_sum-made points bytes columns f k has same made inside byte =
 sums-at : (points : List ℕ) (columns : List (List ℕ)) (k j : ℕ) → IsInverse points columns → j < length points
     → total (length points) (λ l. product (total (length points) (λ i. product (power (get_or points i 0) k) (place columns l i))) (power (get_or points j 0) l))
     ≡ power (get_or points j 0) k
-unfolding row_at
+unfolding row_sum
 sums-at points columns k j inverse inside =
     let n = length points in
     let f : ℕ → ℕ = λ i. power (get_or points i 0) k in

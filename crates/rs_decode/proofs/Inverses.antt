@@ -14,7 +14,7 @@ use Rattle.rs_code.specs.Inner.PowerSums.{power_sum}
 use Rattle.coding.specs.Rows.{place}
 use Rattle.rs_lanes.specs.Inner.Lanes.{HoldsLanes}
 use Rattle.rs_decode.specs.Register.{total}
-use Rattle.rs_decode.specs.Inner.Inverse.{IsInverse, IsPolynomial, row_at}
+use Rattle.rs_decode.specs.Inner.Inverse.{IsInverse, IsPolynomial, row_sum}
 use Rattle.rs_decode.specs.Inner.Locator.{at_points, distances, slope}
 use Rattle.rs_decode.specs.Inner.Sums.{AreOnly, AreSums}
 use Rattle.rs_decode.proofs.Evaluator.{distances-at, power_sum-single, slope-at, value-times_distance}
@@ -54,14 +54,14 @@ alike i = grind (arith, nat_tests)
 pub byte-combined : (points bytes sums : List ℕ) (columns : List (List ℕ)) (i : ℕ) → IsInverse points columns → All IsByte bytes → length bytes ≡ length points → i < length points
     → length points ≤ length sums → AreSums points bytes sums
     → total (length points) (λ k. product (place columns k i) (get_or sums k 0)) ≡ get_or bytes i 0
-unfolding row_at
+unfolding row_sum
 byte-combined points bytes sums columns i inverse all same inside enough are =
     let n = length points in
     let byte = get_or bytes i 0 in
     total-same n (λ k. product (place columns k i) (get_or sums k 0)) (λ k. product (place columns k i) (power_sum bytes points k))
     (λ k below. ap (product (place columns k i)) (sym (are.sums_are k (omega arith))))
     ∙ total-power_sums n (λ k. place columns k i) bytes points
-    ∙ power_sum-single (row_at n columns i) bytes points i same inside (λ j below other. inverse.identity i j inside below ∙ differ i j other)
+    ∙ power_sum-single (row_sum n columns i) bytes points i same inside (λ j below other. inverse.identity i j inside below ∙ differ i j other)
     ∙ ap (product byte) (inverse.identity i i inside inside ∙ alike i)
     ∙ product-one byte (All-get_or IsByte bytes i 0 (omega arith) all)
 
@@ -82,19 +82,19 @@ value-total (c ∷ cs) x =
     ∙ sym (total-next n f)
 
 -- a row that has the coefficients of a polynomial has its values
-pub row_at-polynomial : (polynomial : List ℕ) (columns : List (List ℕ)) (i x : ℕ)
+pub row_sum-polynomial : (polynomial : List ℕ) (columns : List (List ℕ)) (i x : ℕ)
     → ((k : ℕ) → k < length polynomial → place columns k i ≡ get_or polynomial (length polynomial - 1 - k) 0)
-    → row_at (length polynomial) columns i x ≡ value polynomial x
-unfolding row_at
-row_at-polynomial polynomial columns i x set =
+    → row_sum (length polynomial) columns i x ≡ value polynomial x
+unfolding row_sum
+row_sum-polynomial polynomial columns i x set =
     total-same (length polynomial) (λ k. product (place columns k i) (power x k)) (λ k. product (get_or polynomial (length polynomial - 1 - k) 0) (power x k))
     (λ k below. ap (λ c. product c (power x k)) (set k below))
     ∙ sym (value-total polynomial x)
 
 -- a row that stays has the same values
-pub row_at-same : (n i x : ℕ) (columns others : List (List ℕ)) → ((k : ℕ) → place columns k i ≡ place others k i) → row_at n columns i x ≡ row_at n others i x
-unfolding row_at
-row_at-same n i x columns others same =
+pub row_sum-same : (n i x : ℕ) (columns others : List (List ℕ)) → ((k : ℕ) → place columns k i ≡ place others k i) → row_sum n columns i x ≡ row_sum n others i x
+unfolding row_sum
+row_sum-same n i x columns others same =
     total-same n (λ k. product (place columns k i) (power x k)) (λ k. product (place others k i) (power x k)) (λ k below. ap (λ c. product c (power x k)) (same k))
 
 -- ---- polynomials in lanes

@@ -5,7 +5,7 @@ ghost use Rattle.coding.specs.Field.{product};
 ghost use Rattle.coding.specs.Words.{value};
 ghost use Rattle.rs_code.specs.Inner.PowerSums.{AreDistinct};
 ghost use Rattle.coding.specs.Rows.{place};
-ghost use Rattle.rs_decode.specs.Inner.Inverse.{HasSums, IsInverse, IsPolynomial, row_at};
+ghost use Rattle.rs_decode.specs.Inner.Inverse.{HasSums, IsInverse, IsPolynomial, row_sum};
 ghost use Rattle.rs_decode.specs.Inner.Locator.{distances};
 ghost use Rattle.rs_decode.specs.Register.{total};
 ghost use Rattle.rs_lanes.specs.Inner.Lanes.{HoldsLanes};
@@ -103,7 +103,7 @@ fn times_distances(lanes: u8x32, others: &[u8]) -> u8x32
 fn set_row(columns: &mut [[u8; 16]; 16], i: usize, polynomial: &[u8])
     requires inside { i < 16 }
     requires few { length polynomial.now ≤ 16 }
-    ensures row { (x : ℕ) → row_at (length polynomial.now) columns.new i x ≡ value polynomial.now x }
+    ensures row { (x : ℕ) → row_sum (length polynomial.now) columns.new i x ≡ value polynomial.now x }
     ensures others { (k r : ℕ) → r ≢ i → place columns.new k r ≡ place columns.old k r }
 {
     let size = polynomial.len();

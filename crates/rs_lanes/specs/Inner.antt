@@ -3,4 +3,4 @@ pub mod Lanes
 pub mod Parity
 pub mod Tables
 pub mod Thirds
-pub mod Turning
+pub mod Transposing

@@ -8,7 +8,7 @@ ghost use Rattle.rs_lanes.specs.Inner.Lanes.{HasLanes};
 ghost use Rattle.rs_lanes.specs.Inner.Thirds.{exponent_at, folded, third};
 
 use crate::factors::{powers_of, products};
-use crate::lanes::{mixed, times};
+use crate::lanes::{times, xor};
 use std::simd::prelude::*;
 
 /// One place of the five pieces of the third with number `i`, added up to one by Horner's rule in the 17th power of
@@ -54,19 +54,19 @@ fn fifths(y0: u8x32, y1: u8x32, y2: u8x32, y3: u8x32, y4: u8x32) -> [u8x32; 5]
 {
     // The roots other than 1 are 0x0A and its inverse 0xDD, 0x44 and its inverse 0x92. 0x0A and 0xDD add up to 0xD7,
     // 0x44 and 0x92 to 0xD7 + 1. So a product with 0xD7 makes a sum with one root into that with its inverse.
-    let ends = mixed(y1, y4);
-    let middle = mixed(y2, y3);
-    let both = mixed(ends, middle);
+    let ends = xor(y1, y4);
+    let middle = xor(y2, y3);
+    let both = xor(ends, middle);
     let turned = times(&products(0xD7), both);
-    let crossed = mixed(y0, times(&products(0xD7), mixed(y1, y2)));
-    let first = mixed(mixed(crossed, y2), weighed(ends, 0xDD, middle, 0x92));
-    let second = mixed(mixed(crossed, y1), weighed(middle, 0x0A, ends, 0x92));
+    let crossed = xor(y0, times(&products(0xD7), xor(y1, y2)));
+    let first = xor(xor(crossed, y2), weighed(ends, 0xDD, middle, 0x92));
+    let second = xor(xor(crossed, y1), weighed(middle, 0x0A, ends, 0x92));
     [
-        mixed(y0, both),
+        xor(y0, both),
         first,
         second,
-        mixed(second, mixed(turned, ends)),
-        mixed(first, mixed(turned, middle)),
+        xor(second, xor(turned, ends)),
+        xor(first, xor(turned, middle)),
     ]
 }
 
@@ -75,5 +75,5 @@ fn fifths(y0: u8x32, y1: u8x32, y2: u8x32, y3: u8x32, y4: u8x32) -> [u8x32; 5]
 fn weighed(a: u8x32, factor: u8, b: u8x32, other: u8) -> u8x32
     ensures { HasLanes result (λ j. plus (product (slice_index a j) factor) (product (slice_index b j) other)) }
 {
-    mixed(times(&products(factor), a), times(&products(other), b))
+    xor(times(&products(factor), a), times(&products(other), b))
 }

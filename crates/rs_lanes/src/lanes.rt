@@ -11,7 +11,7 @@ use std::simd::prelude::*;
 
 /// The sum of two vectors.
 #[inline(always)]
-pub fn mixed(a: u8x32, b: u8x32) -> u8x32
+pub fn xor(a: u8x32, b: u8x32) -> u8x32
     ensures { HasLanes result (λ k. plus (slice_index a k) (slice_index b k)) }
 {
     a ^ b
@@ -68,7 +68,7 @@ pub fn store(lanes: u8x32, row: &mut [u8], at: usize)
 pub fn times(table: &[[u8; 16]; 2], lanes: u8x32) -> u8x32
     ensures { (factor : ℕ) → IsTable factor table.now → HasLanes result (λ k. product (slice_index lanes k) factor) }
 {
-    mixed(
+    xor(
         by_low_nibble(&table[0], lanes),
         by_high_nibble(&table[1], lanes),
     )
@@ -89,7 +89,7 @@ pub fn with_multiple(sum: u8x32, lanes: u8x32, factor: u8) -> u8x32
     ensures size { length result ≡ 32 }
     ensures each { (k : ℕ) → k < 32 → slice_index result k ≡ plus (slice_index sum k) (product (slice_index lanes k) factor) }
 {
-    mixed(sum, multiple(lanes, factor))
+    xor(sum, multiple(lanes, factor))
 }
 
 // Lanes that are zero exactly where those of both are.

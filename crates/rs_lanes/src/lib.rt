@@ -6,7 +6,7 @@
 //! - [`columns`]: the outer parity of 192 rows, or of 32 of their columns, and the values of 32 columns of a block.
 //! - [`rows`]: the inner parity of 32 rows, and their values.
 //! - [`row`]: the trait of a type that has the bytes of a row.
-//! - [`turning`]: 32 rows, transposed: vectors, one for each place.
+//! - [`transposing`]: 32 rows, transposed: vectors, one for each place.
 //! - [`points`]: products and powers of sixteen bytes at once.
 //! - `lanes`: sums, products, loads and stores of vectors, and where all of several are zero.
 //! - `thirds`: the values of words, in each lane.
@@ -28,11 +28,11 @@ pub mod rows;
 #[cfg(test)]
 mod tests;
 mod thirds;
-pub mod turning;
+pub mod transposing;
 
 pub use columns::{column_values, outer_parity, parity_of_columns};
 pub use lanes::{any_of, are_zeros, load, multiple, store, with_multiple};
 pub use points::{powers, scaled};
 pub use row::Row;
-pub use rows::{inner_parity, row_values, turned_values};
-pub use turning::load_turned;
+pub use rows::{inner_parity, row_values, transposed_values};
+pub use transposing::load_transposed;

@@ -10,7 +10,7 @@ ghost use Rattle.rs_lanes.specs.Inner.Thirds.{behind_zeros, third, IsThird};
 use crate::matrices::PI_MATRIX;
 use crate::parity::parity_of;
 use crate::thirds::{thirds_of, values_of};
-use crate::turning::turn;
+use crate::transposing::transpose;
 use std::simd::prelude::*;
 
 /// Sets the last ten bytes of the 32 rows from `top` on so that these rows are codewords. All else stays.
@@ -21,11 +21,11 @@ pub fn inner_parity(rows: &mut [[u8; 182]], top: usize)
     ensures below { (i : ℕ) → i < top → line rows.new i ≡ line rows.old i }
     ensures above { (i : ℕ) → top + 32 ≤ i → line rows.new i ≡ line rows.old i }
 {
-    let mut turned = [u8x32::splat(0); 182];
-    turn(rows, top, &mut turned);
+    let mut transposed = [u8x32::splat(0); 182];
+    transpose(rows, top, &mut transposed);
     let mut thirds = [[u8x32::splat(0); 3]; 85];
     // With zeros in place of the parity, the values are those that the parity needs.
-    put_thirds(&turned, 172, &mut thirds);
+    put_thirds(&transposed, 172, &mut thirds);
     let parity = parity_of(&PI_MATRIX, &values_of(&thirds));
     for n in 0..32 {
         put_end(&parity, n, &mut rows[top + n]);
@@ -41,20 +41,20 @@ pub fn row_values(rows: &[[u8; 182]], top: usize) -> [u8x32; 10]
     ensures lanes { EachIndex result (λ k. length (line result k) ≡ 32) }
     ensures values { (k n : ℕ) → k < 10 → n < 32 → place result k n ≡ value (line rows.now (top + n)) (power alpha k) }
 {
-    let mut turned = [u8x32::splat(0); 182];
-    turn(rows, top, &mut turned);
-    turned_values(&turned)
+    let mut transposed = [u8x32::splat(0); 182];
+    transpose(rows, top, &mut transposed);
+    transposed_values(&transposed)
 }
 
 /// Likewise for 32 transposed words, where each vector has one place of all words: the values of word `n` are in lane
 /// `n`.
-pub fn turned_values(turned: &[u8x32; 182]) -> [u8x32; 10]
-    ensures bytes { (n : ℕ) → n < 32 → All IsByte (column turned.now n) }
+pub fn transposed_values(transposed: &[u8x32; 182]) -> [u8x32; 10]
+    ensures bytes { (n : ℕ) → n < 32 → All IsByte (column transposed.now n) }
     ensures lanes { EachIndex result (λ k. length (line result k) ≡ 32) }
-    ensures values { (k n : ℕ) → k < 10 → n < 32 → place result k n ≡ value (column turned.now n) (power alpha k) }
+    ensures values { (k n : ℕ) → k < 10 → n < 32 → place result k n ≡ value (column transposed.now n) (power alpha k) }
 {
     let mut thirds = [[u8x32::splat(0); 3]; 85];
-    put_thirds(turned, 182, &mut thirds);
+    put_thirds(transposed, 182, &mut thirds);
     values_of(&thirds)
 }
 
@@ -74,16 +74,16 @@ fn put_end(parity: &[u8x32; 10], n: usize, row: &mut [u8; 182])
 // Sets the thirds to those of words of 182 bytes, which have zeros from place `count` on. Also ensures that the other
 // elements are bytes.
 #[inline(always)]
-fn put_thirds(turned: &[u8x32; 182], count: usize, thirds: &mut [[u8x32; 3]; 85])
+fn put_thirds(transposed: &[u8x32; 182], count: usize, thirds: &mut [[u8x32; 3]; 85])
     requires { count ≤ 182 }
-    ensures bytes { (n : ℕ) → n < 32 → All IsByte (take count (column turned.now n)) }
-    ensures thirds { (i n : ℕ) → i < 3 → n < 32 → IsThird i (filled 182 (take count (column turned.now n))) (third thirds.new i n) }
+    ensures bytes { (n : ℕ) → n < 32 → All IsByte (take count (column transposed.now n)) }
+    ensures thirds { (i n : ℕ) → i < 3 → n < 32 → IsThird i (filled 182 (take count (column transposed.now n))) (third thirds.new i n) }
 {
     for place in 0..85 {
         thirds[place] = thirds_of(
-            padded(turned, count, place),
-            padded(turned, count, 85 + place),
-            padded(turned, count, 170 + place),
+            padded(transposed, count, place),
+            padded(transposed, count, 85 + place),
+            padded(transposed, count, 170 + place),
         );
     }
 }
@@ -91,27 +91,27 @@ fn put_thirds(turned: &[u8x32; 182], count: usize, thirds: &mut [[u8x32; 3]; 85]
 // A place of these words after 73 zeros are put before each. A row has 182 bytes and three pieces 255. Zeros in front
 // of a word change none of its values.
 #[inline(always)]
-fn padded(turned: &[u8x32; 182], count: usize, at: usize) -> u8x32
+fn padded(transposed: &[u8x32; 182], count: usize, at: usize) -> u8x32
     requires count { count ≤ 182 }
     requires at { at < 255 }
     ensures { (n : ℕ) → n < 32
-        → slice_index result n ≡ slice_index (behind_zeros 73 (filled 182 (take count (column turned.now n)))) at }
+        → slice_index result n ≡ slice_index (behind_zeros 73 (filled 182 (take count (column transposed.now n)))) at }
 {
     if at < 73 {
         u8x32::splat(0)
     } else {
-        lanes_or_zeros(turned, count, at - 73)
+        lanes_or_zeros(transposed, count, at - 73)
     }
 }
 
 // The vector of a place below `count`, or zeros.
 #[inline(always)]
-fn lanes_or_zeros(turned: &[u8x32; 182], count: usize, at: usize) -> u8x32
+fn lanes_or_zeros(transposed: &[u8x32; 182], count: usize, at: usize) -> u8x32
     requires { count ≤ 182 }
-    ensures { (n : ℕ) → n < 32 → slice_index result n ≡ slice_index (take count (column turned.now n)) at }
+    ensures { (n : ℕ) → n < 32 → slice_index result n ≡ slice_index (take count (column transposed.now n)) at }
 {
     if at < count {
-        turned[at]
+        transposed[at]
     } else {
         u8x32::splat(0)
     }

@@ -12,7 +12,7 @@ ghost use Rattle.rs_lanes.specs.Inner.Thirds.{exponent_at, third, third_byte};
 
 use crate::factors::{powers_of, products};
 use crate::fifths::folded_places;
-use crate::lanes::{mixed, times};
+use crate::lanes::{times, xor};
 use std::simd::prelude::*;
 
 /// One place of the three thirds, by that place of the three pieces. Also ensures that the lanes of these are bytes.
@@ -22,13 +22,9 @@ pub fn thirds_of(a: u8x32, b: u8x32, c: u8x32) -> [u8x32; 3]
     ensures bytes { (j : ℕ) → j < 32 → (slice_index a j < 256) × (slice_index b j < 256) × (slice_index c j < 256) }
 {
     // alpha^85 is 0xD6, and alpha^170 is 0xD6 + 1: one product serves both.
-    let sum = mixed(a, b);
+    let sum = xor(a, b);
     let shared = times(&products(0xD6), sum);
-    [
-        mixed(sum, c),
-        mixed(shared, mixed(a, c)),
-        mixed(shared, mixed(b, c)),
-    ]
+    [xor(sum, c), xor(shared, xor(a, c)), xor(shared, xor(b, c))]
 }
 
 /// The values of each lane's word at alpha^0 to alpha^(`R` - 1).
@@ -123,7 +119,7 @@ fn next_value(k: usize, count: usize, value: u8x32, next: u8x32) -> u8x32
     ensures bytes { (j : ℕ) → j < 32 → slice_index next j < 256 }
 {
     if k < count {
-        mixed(times(&products(powers_of(1)[k]), value), next)
+        xor(times(&products(powers_of(1)[k]), value), next)
     } else {
         value
     }

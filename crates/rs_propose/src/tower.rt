@@ -11,11 +11,26 @@ use std::simd::prelude::*;
 pub type Logs = [u8x32; 3];
 
 /// The number that is used as the logarithm of 0.
-pub const NONE: u8 = 0xF0;
+pub const LOG_OF_ZERO: u8 = 0xF0;
 
 // The logarithms of the nibbles.
 static LOGARITHMS: [u8; 16] = [
-    NONE, 0x00, 0x01, 0x04, 0x02, 0x08, 0x05, 0x0A, 0x03, 0x0E, 0x09, 0x07, 0x06, 0x0D, 0x0B, 0x0C,
+    LOG_OF_ZERO,
+    0x00,
+    0x01,
+    0x04,
+    0x02,
+    0x08,
+    0x05,
+    0x0A,
+    0x03,
+    0x0E,
+    0x09,
+    0x07,
+    0x06,
+    0x0D,
+    0x0B,
+    0x0C,
 ];
 
 // The powers of z, from z^0 on. There are fifteen.
@@ -45,7 +60,22 @@ static SQUARES_IN_NORM: [u8; 16] = [
 
 // The logarithms of the inverses of the nibbles.
 static INVERSE_LOGARITHMS: [u8; 16] = [
-    NONE, 0x00, 0x0E, 0x0B, 0x0D, 0x07, 0x0A, 0x05, 0x0C, 0x01, 0x06, 0x08, 0x09, 0x02, 0x04, 0x03,
+    LOG_OF_ZERO,
+    0x00,
+    0x0E,
+    0x0B,
+    0x0D,
+    0x07,
+    0x0A,
+    0x05,
+    0x0C,
+    0x01,
+    0x06,
+    0x08,
+    0x09,
+    0x02,
+    0x04,
+    0x03,
 ];
 
 // From bytes to pairs of nibbles, where z is 98 and y is 12 (in base 16).
@@ -116,13 +146,13 @@ pub fn logs(pairs: u8x32) -> Logs {
 /// The logarithms of 1.
 #[inline(always)]
 pub fn logs_of_one() -> Logs {
-    [u8x32::splat(NONE), u8x32::splat(0), u8x32::splat(0)]
+    [u8x32::splat(LOG_OF_ZERO), u8x32::splat(0), u8x32::splat(0)]
 }
 
 /// The logarithms of 0.
 #[inline(always)]
 pub fn logs_of_zero() -> Logs {
-    [u8x32::splat(NONE); 3]
+    [u8x32::splat(LOG_OF_ZERO); 3]
 }
 
 /// The products of pairs of nibbles, by the logarithms of the factors.

@@ -1,13 +1,13 @@
 -- The lines of the report of `lost`. Each ends with one line feed.
 use Rattle.std.specs.Prelude.{ℕ, List, codes}
-use Rattle.cap_lost.specs.declared.fault.Cause.{Cause}
-use Rattle.cap_lost.specs.declared.fault.Cause.TheVariants as causes
+use Rattle.cap_lost.specs.declared.fault.ReportCause.{ReportCause}
+use Rattle.cap_lost.specs.declared.fault.ReportCause.TheVariants as causes
 use Rattle.cap_lost.specs.declared.fault.ReportFault.{ReportFault}
 use Rattle.cap_lost.specs.declared.fault.ReportFault.TheVariants.{NoMemory, ReadFault, Rule}
 use Rattle.cap_top.specs.Closing.{rule_line}
 
 -- the rule that a line breaks
-abbrev pub cause_text : Cause → List ℕ
+abbrev pub cause_text : ReportCause → List ℕ
 cause_text causes.Line = codes "not a report line"
 cause_text causes.Block = codes "no such block"
 cause_text causes.Place = codes "other place"

@@ -1,10 +1,10 @@
 -- The lines of the report of `mark`. Each ends with one line feed.
 use Rattle.std.specs.Prelude.{ℕ, zero, suc, List, [], ◌++◌, codes, decimal}
-use Rattle.cap_map.specs.declared.fault.Cause.{Cause}
-use Rattle.cap_map.specs.declared.fault.Cause.TheVariants as causes
+use Rattle.cap_map.specs.declared.fault.MapCause.{MapCause}
+use Rattle.cap_map.specs.declared.fault.MapCause.TheVariants as causes
 use Rattle.cap_top.specs.Closing.{rule_line}
-use Rattle.cap_top.specs.declared.mark.opening.Refusal.{Refusal}
-use Rattle.cap_top.specs.declared.mark.opening.Refusal.TheVariants.{NoMemory, ReadFault, Rule}
+use Rattle.cap_top.specs.declared.mark.opening.MapRefusal.{MapRefusal}
+use Rattle.cap_top.specs.declared.mark.opening.MapRefusal.TheVariants.{NoMemory, ReadFault, Rule}
 use Rattle.dvd_loop.specs.declared.ends.LoopEnd.{LoopEnd}
 use Rattle.dvd_loop.specs.declared.ends.LoopEnd.TheVariants as ends
 
@@ -23,7 +23,7 @@ closing_line ends.Long = codes "long\n"
 closing_line other = []
 
 -- the rule that a line of the map breaks
-abbrev pub cause_text : Cause → List ℕ
+abbrev pub cause_text : MapCause → List ℕ
 cause_text causes.State = codes "no state"
 cause_text causes.Fields = codes "fields"
 cause_text causes.Number = codes "number"
@@ -34,7 +34,7 @@ cause_text causes.Gap = codes "gap"
 cause_text causes.Overlap = codes "overlap"
 
 -- the line of a run that doesn't begin
-abbrev pub refusal_line : Refusal → List ℕ
+abbrev pub refusal_line : MapRefusal → List ℕ
 refusal_line NoMemory = codes "no memory\n"
 refusal_line ReadFault = codes "map: read fault\n"
 refusal_line (Rule line cause) = rule_line (codes "map: line ") line (cause_text cause)

@@ -1,7 +1,7 @@
 -- The exit statuses of `mark`.
 use Rattle.std.specs.Prelude.{ℕ, zero, suc}
-use Rattle.cap_top.specs.declared.mark.opening.Refusal.{Refusal}
-use Rattle.cap_top.specs.declared.mark.opening.Refusal.TheVariants as refusals
+use Rattle.cap_top.specs.declared.mark.opening.MapRefusal.{MapRefusal}
+use Rattle.cap_top.specs.declared.mark.opening.MapRefusal.TheVariants as refusals
 use Rattle.cap_top.specs.declared.status.Status.{Status}
 use Rattle.cap_top.specs.declared.status.Status.TheVariants as status
 use Rattle.dvd_loop.specs.declared.ends.LoopEnd.{LoopEnd}
@@ -22,7 +22,7 @@ status_of ends.Long = status.Long
 status_of other = status.ReportFault
 
 -- the status of a run that doesn't begin
-abbrev pub refusal_status : Refusal → Status
+abbrev pub refusal_status : MapRefusal → Status
 refusal_status refusals.NoMemory = status.NoMemory
 refusal_status refusals.ReadFault = status.ReadFault
 refusal_status (refusals.Rule line cause) = status.BadInput

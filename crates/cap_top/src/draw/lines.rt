@@ -4,7 +4,7 @@ ghost use Rattle.cap_draw.specs.declared.drawing.DrawEnd.TheVariants.{Short};
 ghost use Rattle.cap_top.specs.Draw.{draw_line, rule_text};
 
 use crate::closing::{fixed_line, rule_line};
-use cap_draw::{Cause, DrawEnd};
+use cap_draw::{DrawEnd, SurveyCause};
 use dvd_report::Line;
 
 /// The line that closes the report.
@@ -31,17 +31,17 @@ fn short_line(number: u64, bytes: u64) -> Line
     line
 }
 
-fn rule_text(cause: Cause) -> &'static [u8]
+fn rule_text(cause: SurveyCause) -> &'static [u8]
     ensures text { result.now ≡ rule_text cause }
     ensures short { length result.now ≤ 8 }
 {
     match cause {
-        Cause::Form => b"form",
-        Cause::Order => b"order",
-        Cause::Range => b"range",
-        Cause::Sum8 => b"sum8",
-        Cause::TooMany => b"too many",
-        Cause::Totals => b"totals",
-        Cause::After => b"after",
+        SurveyCause::Form => b"form",
+        SurveyCause::Order => b"order",
+        SurveyCause::Range => b"range",
+        SurveyCause::Sum8 => b"sum8",
+        SurveyCause::TooMany => b"too many",
+        SurveyCause::Totals => b"totals",
+        SurveyCause::After => b"after",
     }
 }

@@ -6,7 +6,7 @@ use cap_interleave::InterleaveEnd;
 use dvd_report::Line;
 
 /// The closing line. The files are counted from 1 there, as they are in the arguments.
-pub fn close_line(end: InterleaveEnd) -> Line
+pub fn closing_line(end: InterleaveEnd) -> Line
     ensures { result ≡ closing_line end }
 {
     let mut line = Line::new();

@@ -3,11 +3,11 @@ ghost use Rattle.std.specs.Prelude.{◌≡◌, ◌≤◌, length};
 ghost use Rattle.cap_top.specs.Lost.Lines.{cause_text, refusal_line};
 
 use crate::closing::{fixed_line, rule_line};
-use cap_lost::{Cause, ReportFault};
+use cap_lost::{ReportCause, ReportFault};
 use dvd_report::Line;
 
 /// The line of a run whose report isn't read.
-pub fn refused_line(fault: ReportFault) -> Line
+pub fn refusal_line(fault: ReportFault) -> Line
     ensures { result ≡ refusal_line fault }
 {
     match fault {
@@ -17,19 +17,19 @@ pub fn refused_line(fault: ReportFault) -> Line
     }
 }
 
-fn text_of(cause: Cause) -> &'static [u8]
+fn text_of(cause: ReportCause) -> &'static [u8]
     ensures text { result.now ≡ cause_text cause }
     ensures short { length result.now ≤ 20 }
 {
     match cause {
-        Cause::Line => b"not a report line",
-        Cause::Block => b"no such block",
-        Cause::Place => b"other place",
-        Cause::NoImage => b"no image sectors",
-        Cause::Order => b"out of order",
-        Cause::Count => b"wrong count",
-        Cause::Fault => b"ended by a fault",
-        Cause::AfterEnd => b"after the end",
-        Cause::NoEnd => b"no closing line",
+        ReportCause::Line => b"not a report line",
+        ReportCause::Block => b"no such block",
+        ReportCause::Place => b"other place",
+        ReportCause::NoImage => b"no image sectors",
+        ReportCause::Order => b"out of order",
+        ReportCause::Count => b"wrong count",
+        ReportCause::Fault => b"ended by a fault",
+        ReportCause::AfterEnd => b"after the end",
+        ReportCause::NoEnd => b"no closing line",
     }
 }

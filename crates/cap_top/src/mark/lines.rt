@@ -2,16 +2,16 @@
 ghost use Rattle.std.specs.Prelude.{◌≡◌, ◌≤◌, length};
 ghost use Rattle.cap_top.specs.Mark.Lines.{cause_text, closing_line, refusal_line};
 
-use super::opening::Refusal;
+use super::opening::MapRefusal;
 use crate::closing::{fixed_line, rule_line};
-use cap_map::Cause;
+use cap_map::MapCause;
 use dvd_loop::LoopEnd;
 use dvd_report::Line;
 
 /// The line that closes the report of a run. The number of recording frames of a capture isn't known before. So an end
 /// within a frame none of whose bytes came is that of a whole capture. The line is empty after a fault of the report,
 /// and for an end that no run has.
-pub fn close_line(end: LoopEnd) -> Line
+pub fn closing_line(end: LoopEnd) -> Line
     ensures { result ≡ closing_line end }
 {
     let mut line = Line::new();
@@ -32,28 +32,28 @@ pub fn close_line(end: LoopEnd) -> Line
 }
 
 /// The line of a run that doesn't begin.
-pub fn refused_line(refusal: Refusal) -> Line
+pub fn refusal_line(refusal: MapRefusal) -> Line
     ensures { result ≡ refusal_line refusal }
 {
     match refusal {
-        Refusal::NoMemory => fixed_line(b"no memory\n"),
-        Refusal::ReadFault => fixed_line(b"map: read fault\n"),
-        Refusal::Rule { line, cause } => rule_line(b"map: line ", line, text_of(cause)),
+        MapRefusal::NoMemory => fixed_line(b"no memory\n"),
+        MapRefusal::ReadFault => fixed_line(b"map: read fault\n"),
+        MapRefusal::Rule { line, cause } => rule_line(b"map: line ", line, text_of(cause)),
     }
 }
 
-fn text_of(cause: Cause) -> &'static [u8]
+fn text_of(cause: MapCause) -> &'static [u8]
     ensures text { result.now ≡ cause_text cause }
     ensures short { length result.now ≤ 8 }
 {
     match cause {
-        Cause::State => b"no state",
-        Cause::Fields => b"fields",
-        Cause::Number => b"number",
-        Cause::Status => b"status",
-        Cause::Empty => b"empty",
-        Cause::TooLong => b"too long",
-        Cause::Gap => b"gap",
-        Cause::Overlap => b"overlap",
+        MapCause::State => b"no state",
+        MapCause::Fields => b"fields",
+        MapCause::Number => b"number",
+        MapCause::Status => b"status",
+        MapCause::Empty => b"empty",
+        MapCause::TooLong => b"too long",
+        MapCause::Gap => b"gap",
+        MapCause::Overlap => b"overlap",
     }
 }

@@ -1,38 +1,38 @@
 //! The map of a run, which is read whole before the capture is touched: a wrong map then costs no output.
 ghost use Rattle.std.specs.Prelude.{◌≡◌, IfOk, IfErr};
-ghost use Rattle.cap_top.specs.Mark.Opening.{IsRefused, IsTextFault, Opens, TextIs};
+ghost use Rattle.cap_top.specs.Mark.Opening.{IsMapRefused, IsTextFault, OpensMap, TextIs};
 
-use cap_map::{Cause, MapFault, Span, read_map};
+use cap_map::{MapCause, MapFault, Span, read_map};
 use dvd_ports::{Failed, Source};
 use std::alloc::Global;
 
 /// Why a run doesn't begin.
 #[derive(Clone, Copy, Debug, PartialEq, Eq)]
-pub enum Refusal {
+pub enum MapRefusal {
     /// There is no memory for the text of the map or for its spans.
     NoMemory,
     /// The file of the map couldn't be opened, or a read of it failed.
     ReadFault,
     /// This line of the map is the first that breaks a rule.
-    Rule { line: u64, cause: Cause },
+    Rule { line: u64, cause: MapCause },
 }
 
 /// Reads a map in which these statuses are trusted, to its end. No span is used before the last line was read, since
 /// one that breaks a rule ends the run.
-pub fn open_map<M: Source>(alloc: Global, good: &[u8], map: &mut M) -> Result<Vec<Span>, Refusal>
-    ensures opened { IfOk result (λ spans. Opens good.now (M.seen map.old) (M.seen map.new) spans.items) }
-    ensures refused { IfErr result (IsRefused good.now (M.seen map.old) (M.seen map.new)) }
+pub fn open_map<M: Source>(alloc: Global, good: &[u8], map: &mut M) -> Result<Vec<Span>, MapRefusal>
+    ensures opened { IfOk result (λ spans. OpensMap good.now (M.seen map.old) (M.seen map.new) spans.items) }
+    ensures refused { IfErr result (IsMapRefused good.now (M.seen map.old) (M.seen map.new)) }
 {
     let text = read_text(alloc, map)?;
     match read_map(alloc, &text, good) {
         Ok(spans) => Ok(spans),
-        Err(MapFault::NoMemory) => Err(Refusal::NoMemory),
-        Err(MapFault::Rule { line, cause }) => Err(Refusal::Rule { line, cause }),
+        Err(MapFault::NoMemory) => Err(MapRefusal::NoMemory),
+        Err(MapFault::Rule { line, cause }) => Err(MapRefusal::Rule { line, cause }),
     }
 }
 
 // Reads the text of a map by pieces. Its length isn't known before, so the text grows.
-fn read_text<M: Source>(alloc: Global, map: &mut M) -> Result<Vec<u8>, Refusal>
+fn read_text<M: Source>(alloc: Global, map: &mut M) -> Result<Vec<u8>, MapRefusal>
     ensures read { IfOk result (λ text. TextIs (M.seen map.old) (M.seen map.new) text.items) }
     ensures refused { IfErr result (IsTextFault (M.seen map.old) (M.seen map.new)) }
 {
@@ -43,10 +43,10 @@ fn read_text<M: Source>(alloc: Global, map: &mut M) -> Result<Vec<u8>, Refusal>
             Ok(0) => return Ok(text),
             Ok(count) => {
                 if text.extend_from_slice(&piece[..count]).is_err() {
-                    return Err(Refusal::NoMemory);
+                    return Err(MapRefusal::NoMemory);
                 }
             }
-            Err(Failed) => return Err(Refusal::ReadFault),
+            Err(Failed) => return Err(MapRefusal::ReadFault),
         }
     }
 }

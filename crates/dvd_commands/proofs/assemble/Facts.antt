@@ -25,5 +25,5 @@ facts = record {
       runs_exist (frames settings layout) (λ k. frame_size settings.form) (λ k own. refl)
       (λ before own lt is. ([], Good, (refl, refl))) (λ before all. (_, refl)) bytes are);
   alike = λ workers settings bytes outcome goes. (goes.0, layout_with workers settings goes.0 goes.1, goes.2);
-  lawful = λ settings none. none;
+  valid = λ settings none. none;
 }

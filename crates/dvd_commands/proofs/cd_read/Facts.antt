@@ -24,5 +24,5 @@ facts = record {
       (λ before own within is. read_some (settings.address + length before) (length before) own) (λ before all. no_closing) bytes are in
       (exists.0, (tt, tt, exists.1), exists.2);
   alike = λ workers settings bytes outcome goes. goes;
-  lawful = λ settings none. refl;
+  valid = λ settings none. refl;
 }

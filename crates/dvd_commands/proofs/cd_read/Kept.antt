@@ -4,14 +4,14 @@ use Rattle.std.specs.Prelude.{replicate}
 use Rattle.std.proofs.lemmas.List.{length-drop, length-replicate, length-take-le, take_at}
 use Rattle.cd_sector.specs.Causes.{IsRightSector}
 use Rattle.cd_sector.specs.Edc.{cd_edc_of}
-use Rattle.cd_sector.specs.Laws.{IsBorne}
+use Rattle.cd_sector.specs.Laws.{IsCorrectableHalf}
 use Rattle.cd_sector.specs.Repair.{repaired, with_p_words, with_q_words}
 use Rattle.cd_sector.specs.Sector.{IsSector, covered, sync}
 use Rattle.cd_sector.proofs.Faultless.{faultless, made_whole}
 use Rattle.cd_sector.proofs.GivenBack.{given_back}
 use Rattle.cd_sector.proofs.OneSector.{no_cause}
 use Rattle.cd_sector.proofs.Passes.{length-with_p_words, length-with_q_words}
-use Rattle.dvd_loop.specs.Laws.{AreTotal, IsFaultless, IsFrontOf, first}
+use Rattle.dvd_loop.specs.Laws.{AreTotal, IsFaultless, IsPrefixOf, first}
 use Rattle.dvd_loop.specs.Machine.{IsOutcome, IsUnit, Outcome, Step}
 use Rattle.dvd_loop.specs.Machine.Step.{Write}
 use Rattle.dvd_loop.specs.UnitCommand.{written}
@@ -20,11 +20,11 @@ use Rattle.dvd_loop.specs.declared.ends.UnitKind.{UnitKind}
 use Rattle.dvd_loop.specs.declared.ends.UnitKind.TheVariants.{Bad, Good, Last}
 use Rattle.dvd_loop.proofs.Apart.{takes_sized}
 use Rattle.dvd_loop.proofs.Sizes.{begins_somehow, sized_whole}
-use Rattle.dvd_commands.specs.CdBound.{GivesUserData, IsBorneSector, cd_sector_bytes}
+use Rattle.dvd_commands.specs.CdBound.{GivesUserData, IsCorrectableSector, cd_sector_bytes}
 use Rattle.dvd_commands.specs.Commands.{meaning}
 use Rattle.dvd_commands.specs.Meaning.{GoesBy}
 use Rattle.dvd_commands.specs.CdRead.{IsSectorRead, cdread_units, user_data}
-use Rattle.dvd_commands.specs.Laws.{BorneSectorsAreKept}
+use Rattle.dvd_commands.specs.Laws.{CorrectableSectorsAreKept}
 use Rattle.dvd_words.specs.declared.settings.Settings.{Settings}
 use Rattle.dvd_commands.proofs.BlockUnits.{part_there}
 use Rattle.dvd_commands.proofs.cd_read.Sectors.{read_some}
@@ -44,9 +44,9 @@ made_data address user sector size made =
     ap user_data (made_whole address user sector made) ∙ data_of address user rest size
 
 -- ONE SECTOR. Damage that can be corrected is repaired, and what was made has no cause.
-pub borne_given : (address k : ℕ) (user sector read : List ℕ) (steps : List Step) (kind : UnitKind) → length user ≡ 2048 → IsSector address user sector
-    → length read ≡ 2352 → IsBorne 0 sector read → IsBorne 1 sector read → IsSectorRead address k read steps kind → (steps ≡ Write user ∷ []) × (kind ≡ Good)
-borne_given address k user sector read steps kind user_size made size low high does =
+pub correctable_given : (address k : ℕ) (user sector read : List ℕ) (steps : List Step) (kind : UnitKind) → length user ≡ 2048 → IsSector address user sector
+    → length read ≡ 2352 → IsCorrectableHalf 0 sector read → IsCorrectableHalf 1 sector read → IsSectorRead address k read steps kind → (steps ≡ Write user ∷ []) × (kind ≡ Good)
+correctable_given address k user sector read steps kind user_size made size low high does =
     let back : repaired read ≡ sector = given_back address user sector read made size low high in
     elim does [
       | inl given ↦ (given.writes ∙ ap (λ l. Write l ∷ []) (ap user_data back ∙ made_data address user sector user_size made), given.good)
@@ -58,11 +58,11 @@ length-own : (k : ℕ) (bytes : List ℕ) → 2352 * (k + 1) ≤ length bytes �
 length-own k bytes there = length-take-le 2352 (drop (2352 * k) bytes) (omega (arith, there, length-drop (2352 * k) bytes))
 
 -- for a sector whose damage can be corrected its user data are written, and nothing else
-alone : (settings : Settings) (bytes user : List ℕ) (k : ℕ) → IsBorneSector settings bytes user k
+alone : (settings : Settings) (bytes user : List ℕ) (k : ℕ) → IsCorrectableSector settings bytes user k
     → (steps : List Step) (kind : UnitKind) → IsSectorRead (settings.address + k) k (cd_sector_bytes bytes k) steps kind
     → (steps ≡ Write user ∷ []) × (kind ≡ Good)
 alone settings bytes user k b steps kind does =
-    borne_given (settings.address + k) k user b.sector (cd_sector_bytes bytes k) steps kind b.user_size b.is_sector (length-own k bytes b.whole) b.low b.high does
+    correctable_given (settings.address + k) k user b.sector (cd_sector_bytes bytes k) steps kind b.user_size b.is_sector (length-own k bytes b.whole) b.low b.high does
 
 -- ALL SECTORS. Each writes 2,048 bytes.
 length-repaired : (read : List ℕ) → length read ≡ 2352 → length (repaired read) ≡ 2352
@@ -126,14 +126,14 @@ module _ (address sectors : ℕ) where
 -- in a run whose loop ended without a fault the user data of a sector that can be corrected are at its place
 at_place : (settings : Settings) (bytes : List ℕ) (a : Outcome) → IsOutcome (cdread_units settings.address settings.sectors) bytes a
     → IsFaultless a.end
-    → (user : List ℕ) (k : ℕ) → IsBorneSector settings bytes user k → take 2048 (drop (2048 * k) a.out) ≡ user
+    → (user : List ℕ) (k : ℕ) → IsCorrectableSector settings bytes user k → take 2048 (drop (2048 * k) a.out) ≡ user
 at_place settings bytes a runs none user k b =
     let units = cdread_units settings.address settings.sectors in
     let (steps, kind, t) = takes_sized units 2352 (λ j l. refl) (never_last settings.address settings.sectors) refl bytes a runs none k b.asked b.whole in
     let does = subst (λ j. IsSectorRead (settings.address + j) j (cd_sector_bytes bytes k) steps kind) t.number t.unit.does in
     let back = alone settings bytes user k b steps kind does in
     part_there (2048 * k) 2048 t.alone.out user a.out (length-first settings.address settings.sectors k bytes t.alone t.runs t.ends)
-    b.user_size (subst (λ s. IsFrontOf (t.alone.out ++ written s) a.out) back.0 t.out)
+    b.user_size (subst (λ s. IsPrefixOf (t.alone.out ++ written s) a.out) back.0 t.out)
 
 -- whatever bytes there are, something is done for each sector
 cdread_total : (address sectors : ℕ) → AreTotal (cdread_units address sectors)
@@ -144,7 +144,7 @@ cdread_total address sectors = record {
 }
 
 -- the law: a loop of `cdread` gives back the user data of each sector whose damage can be corrected
-pub kept_sectors : BorneSectorsAreKept
+pub kept_sectors : CorrectableSectorsAreKept
 kept_sectors settings bytes loop is goes =
     let units = cdread_units settings.address settings.sectors in
     let (subject, has, runs) = subst (λ command. GoesBy (meaning command) settings bytes loop) is goes in

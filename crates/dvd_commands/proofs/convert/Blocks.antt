@@ -22,7 +22,7 @@ use Rattle.dvd_commands.proofs.Layouts.{layout_for}
 use Rattle.dvd_words.specs.Settings.{broken_rule}
 use Rattle.dvd_words.specs.declared.settings.Settings.{Settings}
 use Rattle.dvd_loop.specs.Machine.Prefix.{Whole}
-use Rattle.dvd_commands.proofs.BorneBlocks.{captured-received}
+use Rattle.dvd_commands.proofs.BlocksWithinBound.{captured-received}
 use Rattle.dvd_capture.proofs.ListedWritten.{some_spelling}
 use Rattle.dvd_commands.proofs.SomeThing.{MaySome}
 

@@ -37,5 +37,5 @@ facts = record {
   alike = λ workers settings bytes outcome goes.
       let ((layout, opening), (is, header), runs) = goes in
       ((layout, opening), (layout_with workers settings layout is, header_with workers settings settings opening header), runs);
-  lawful = λ settings none. none;
+  valid = λ settings none. none;
 }

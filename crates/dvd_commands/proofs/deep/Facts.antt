@@ -25,5 +25,5 @@ facts = record {
       captures_exist (blocks settings layout) settings.form (λ k own. refl)
       (λ before own. deepened_some layout settings.zones settings.form (length before) own) (λ before all. no_closing) bytes);
   alike = λ workers settings bytes outcome goes. (goes.0, layout_with workers settings goes.0 goes.1, goes.2);
-  lawful = λ settings none. none;
+  valid = λ settings none. none;
 }

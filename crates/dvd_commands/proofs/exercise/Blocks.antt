@@ -84,15 +84,15 @@ drawn_mastered layout k entry image single stands =
     ap (λ e. frames_of layout e (replicate 6 0) image) (data_entry layout single k entry stands) ∙ same_frames layout single k image
 
 -- lengths of so many blocks break no rule
-lawful_lengths : (blocks : ℕ) → 1 ≤ blocks → blocks ≤ 4096 → first_fault Single (16 * blocks) 0 0 0 ≡ None
+valid_lengths : (blocks : ℕ) → 1 ≤ blocks → blocks ≤ 4096 → first_fault Single (16 * blocks) 0 0 0 ≡ None
 unfolding first_fault
-lawful_lengths blocks some few = grind (arith, nat_tests)
+valid_lengths blocks some few = grind (arith, nat_tests)
 
 -- so there is a layout
-pub lawful_disk : (blocks : ℕ) → 1 ≤ blocks → blocks ≤ 4096 → (answer : Result Layout LayoutFault)
+pub valid_disk : (blocks : ℕ) → 1 ≤ blocks → blocks ≤ 4096 → (answer : Result Layout LayoutFault)
     → IfErr answer (λ fault. first_fault Single (16 * blocks) 0 0 0 ≡ Some fault) → IsOk answer
-lawful_disk blocks some few (Ok layout) refused = refl
-lawful_disk blocks some few (Err fault) refused = absurd (let no : None ≡ Some fault = sym (lawful_lengths blocks some few) ∙ refused in cc)
+valid_disk blocks some few (Ok layout) refused = refl
+valid_disk blocks some few (Err fault) refused = absurd (let no : None ≡ Some fault = sym (valid_lengths blocks some few) ∙ refused in cc)
 
 -- the numbers of a block of at most 4,096 have 24 bits
 pub drawn_numbers : (k : ℕ) → k < 4096 → HasNumbers (drawn_entry k)

@@ -24,5 +24,5 @@ facts = record {
       (λ before all. exercised_some settings.seed settings.blocks) bytes are in
       (exists.0, (tt, tt, exists.1), exists.2);
   alike = λ workers settings bytes outcome goes. goes;
-  lawful = λ settings none. refl;
+  valid = λ settings none. refl;
 }

@@ -35,7 +35,7 @@ pub answers : (entry : BlockPlan) (rows : List (List ℕ)) (marks : List (List B
     → IsControlDone entry rows marks (Write (format_lines format) ∷ []) Last
 answers entry rows marks format tells =
     subst (λ f. IsControlDone entry rows marks (Write (format_lines f) ∷ []) Last) (sym tells.fields)
-    (inl (record { sectors = tells.sectors; read = tells.read; lawful = tells.lawful; writes = refl; last = refl }))
+    (inl (record { sectors = tells.sectors; read = tells.read; valid = tells.valid; writes = refl; last = refl }))
 
 -- where none is found nothing is done
 pub silent : (entry : BlockPlan) (rows : List (List ℕ)) (marks : List (List Bool)) (old : Streams) → AnswersNothing entry rows marks

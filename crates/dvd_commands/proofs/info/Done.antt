@@ -36,7 +36,7 @@ module _ (entry : BlockPlan) (rows : List (List ℕ)) (marks : List (List Bool))
     | inr (sectors, fault, read, broken) ↦
         let same : p.sectors ≡ sectors =
         (read-determined rows marks entry p.sectors size marks_size p.read).1 ∙ sym (read-determined rows marks entry sectors size marks_size read).1 in
-        let no : None ≡ Some fault = sym p.lawful ∙ ap (λ s. control_fault (line s 0)) same ∙ broken in
+        let no : None ≡ Some fault = sym p.valid ∙ ap (λ s. control_fault (line s 0)) same ∙ broken in
         cc
   ]
 
@@ -60,10 +60,10 @@ module _ (entry : BlockPlan) (rows : List (List ℕ)) (marks : List (List Bool))
   -- a block without a cause may answer with its format, or with none where that breaks a rule
   format_some : block_cause rows marks entry ≡ None → (fault : Option ControlFault) → control_fault (line (block_sectors rows marks entry) 0) ≡ fault
       → MaySome (IsControlDone entry rows marks)
-  format_some none None lawful = (
+  format_some none None valid = (
     Write (format_lines (fields_in (line (block_sectors rows marks entry) 0))) ∷ [],
     Last,
-    inl (record { sectors = block_sectors rows marks entry; read = no_cause-read rows marks entry size marks_size none; lawful = lawful; writes = refl; last = refl }),
+    inl (record { sectors = block_sectors rows marks entry; read = no_cause-read rows marks entry size marks_size none; valid = valid; writes = refl; last = refl }),
   )
   format_some none (Some fault) broken = (
     [],

@@ -32,7 +32,7 @@ facts = record {
       (λ before own. sought_some settings.initial settings.form (length before) own) (λ before all. no_closing) bytes in
       (exists.0, (tt, tt, exists.1), exists.2);
   alike = λ workers settings bytes outcome goes. goes;
-  lawful = λ settings none.
+  valid = λ settings none.
       let initial = fits settings none in
       ap (λ b. cond b (Some (InitialTooLong settings.initial)) None) (lt-leb (suc 12031) settings.initial (omega (arith, initial)));
 }

@@ -28,7 +28,7 @@ frames_facts = record {
       (λ before own lt is. (Write _ ∷ [], Good, record { made = _; holds = refl; writes = refl; good = refl })) (λ before all. no_closing) bytes are in
       (exists.0, (tt, tt, exists.1), exists.2);
   alike = λ workers settings bytes outcome goes. goes;
-  lawful = λ settings none. refl;
+  valid = λ settings none. refl;
 }
 
 -- those of `cdmake`
@@ -46,5 +46,5 @@ cdmake_facts = record {
       (λ before own within. made_some (settings.address + length before) own (omega (arith, last))) (λ before all. no_closing) bytes are in
       (exists.0, (tt, tt, exists.1), exists.2);
   alike = λ workers settings bytes outcome goes. goes;
-  lawful = λ settings none. refl;
+  valid = λ settings none. refl;
 }

@@ -25,5 +25,5 @@ facts = record {
       runs_exist (blocks settings layout) (bytes_of_block layout settings.zones) (λ k own. refl)
       (λ before own. mastered_some layout settings.zones settings.cpr six (length before) own) (λ before all. no_closing) bytes are);
   alike = λ workers settings bytes outcome goes. (goes.0, layout_with workers settings goes.0 goes.1, goes.2);
-  lawful = λ settings none. none;
+  valid = λ settings none. none;
 }

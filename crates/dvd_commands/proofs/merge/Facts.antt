@@ -30,5 +30,5 @@ facts = record {
       (λ before own lt is. (Write (marked_text (joined (tables_in settings.captures settings.form own))) ∷ [], Good, (refl, refl)))
       (λ before all. no_closing) bytes are);
   alike = λ workers settings bytes outcome goes. (goes.0, layout_with workers settings goes.0 goes.1, goes.2);
-  lawful = λ settings none. none;
+  valid = λ settings none. none;
 }

@@ -54,8 +54,8 @@ pub gone_over : (command : Command) (settings : Settings) → settings.command �
     → (subject : (meaning command).Subject) → (meaning command).IsSubject settings subject
     → (old new : Streams) (end : LoopEnd) → HasEnded (IsOutcome ((meaning command).units settings subject)) old new end
     → HasGoneOver settings old new end
-gone_over command settings is lawful subject has old new end ended = record {
-  lawful = subst (λ c. (meaning c).breaks settings ≡ None) (sym is) lawful;
+gone_over command settings is valid subject has old new end ended = record {
+  valid = subst (λ c. (meaning c).breaks settings ≡ None) (sym is) valid;
   loop = goes_over command settings is subject has old new end ended;
 }
 
@@ -63,7 +63,7 @@ gone_over command settings is lawful subject has old new end ended = record {
 pub looped_by_words : (settings : Settings) → HasSize settings.form → (old new : Streams) (end : LoopEnd) → HasGoneOver settings old new end
     → HasLooped settings old new end
 looped_by_words settings sized old new end gone = record {
-  lawful = breaks_by_words settings.form sized settings ∙ gone.lawful;
+  valid = breaks_by_words settings.form sized settings ∙ gone.valid;
   loop = ended_as (GoesOver settings) (Opens settings.form GoesOver settings) old new end (opens_by_words settings.form sized GoesOver settings) gone.loop;
 }
 
@@ -84,7 +84,7 @@ opened_over command settings stated layout is old read output report new end ope
             left = left;
             front = refl;
             after = after;
-            comes = inr (opened.whole, inr (stated, opened.header, opened.lawful, holds));
+            comes = inr (opened.whole, inr (stated, opened.header, opened.valid, holds));
             takes = refl;
           })
           over.comes;
@@ -96,7 +96,7 @@ behind_none : (Loops : Settings → List ℕ → Outcome → Type 0) (settings :
     → ComesBehind NoLoop settings own left after → ComesBehind Loops settings own left after
 behind_none Loops settings own left after (inl early) = inl early
 behind_none Loops settings own left after (inr (whole, inl broken)) = inr (whole, inl broken)
-behind_none Loops settings own left after (inr (whole, inr (stated, header, lawful, none))) = absurd none
+behind_none Loops settings own left after (inr (whole, inr (stated, header, valid, none))) = absurd none
 
 -- a run that ended in its header is one of a listed capture
 pub opened_ended : (Loops : Settings → List ℕ → Outcome → Type 0) (settings : Settings) (old read output report : Seen) (end : LoopEnd)
@@ -129,7 +129,7 @@ opened_ended Loops settings old read output report end ended_in causes = record 
 pub looped_listed : (settings : Settings) → settings.form ≡ Listed → (old new : Streams) (end : LoopEnd) → HasEnded (IsOpened GoesOver settings) old new end
     → HasLooped settings old new end
 looped_listed settings is old new end ended = record {
-  lawful = ap (λ form. breaks_in form settings) is;
+  valid = ap (λ form. breaks_in form settings) is;
   loop = subst (λ form. HasEnded (Opens form GoesOver settings) old new end) (sym is) ended;
 }
 
@@ -141,13 +141,13 @@ pub looped_over : (command : Command) (settings stated : Settings) (layout : Lay
     → (subject : (meaning command).Subject) → (meaning command).IsSubject stated subject
     → HasEnded (IsOutcome ((meaning command).units stated subject)) (streams read output report) new end
     → HasLooped settings (streams old output report) new end
-looped_over command settings stated layout is lawful old read output report new end (inl (sized, unbroken, same, unread)) causes subject has ended =
+looped_over command settings stated layout is valid old read output report new end (inl (sized, unbroken, same, unread)) causes subject has ended =
     let m = meaning command in
     looped_by_words settings sized (streams old output report) new end
-    (gone_over command settings is (lawful unbroken) subject (subst (λ s. m.IsSubject s subject) same has) (streams old output report) new end
+    (gone_over command settings is (valid unbroken) subject (subst (λ s. m.IsSubject s subject) same has) (streams old output report) new end
     (subst (λ s. HasEnded (IsOutcome (m.units s subject)) (streams old output report) new end) same
     (subst (λ seen. HasEnded (IsOutcome (m.units stated subject)) (streams seen output report) new end) unread ended)))
-looped_over command settings stated layout is lawful old read output report new end (inr (listed, opened)) causes subject has ended =
+looped_over command settings stated layout is valid old read output report new end (inr (listed, opened)) causes subject has ended =
     looped_listed settings listed (streams old output report) new end
     (opened_over command settings stated layout is old read output report new end opened causes subject has ended)
 

@@ -59,11 +59,11 @@ module _ (header : Header) (numbers : FitsHeader header) (zones : Zones) (zones_
       )
 
 -- a layout that is found breaks no rule
-pub lawful_by : (layout : Layout) (zones : Zones) (shape : Shape) (sectors0 sectors1 initial tail : ℕ) → layout.shape ≡ shape → layout.sectors0 ≡ sectors0
+pub valid_by : (layout : Layout) (zones : Zones) (shape : Shape) (sectors0 sectors1 initial tail : ℕ) → layout.shape ≡ shape → layout.sectors0 ≡ sectors0
     → layout.sectors1 ≡ sectors1 → layout.initial ≡ initial → layout.tail ≡ tail → first_fault shape sectors0 sectors1 initial tail ≡ None
     → (settings : Settings) → broken_rule (with_layout settings layout zones) ≡ None
-lawful_by layout zones shape sectors0 sectors1 initial tail shape_is sectors0_is sectors1_is initial_is tail_is lawful settings =
-    rw (shape_is, sectors0_is, sectors1_is, initial_is, tail_is) lawful
+valid_by layout zones shape sectors0 sectors1 initial tail shape_is sectors0_is sectors1_is initial_is tail_is valid settings =
+    rw (shape_is, sectors0_is, sectors1_is, initial_is, tail_is) valid
 
 -- Of all 32 bytes neither a fault of a read nor the end of the input is answered.
 pub whole_counts : (end : HeaderEnd) (own left : List ℕ) → length own ≡ 32 → AnswersHeader end own left → (old new : Seen) → HasGoneOn old new

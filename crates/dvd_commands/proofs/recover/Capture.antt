@@ -18,7 +18,7 @@ use Rattle.dvd_layout.specs.declared.entry.Content.{Content}
 use Rattle.dvd_layout.specs.declared.entry.Content.TheVariants.{Zero, Reference, Control, Image}
 use Rattle.dvd_layout.specs.declared.layout.Layout.{Layout}
 use Rattle.dvd_layout.specs.declared.layout.Zones.{Zones}
-use Rattle.dvd_loop.specs.Laws.{IsFaultless, IsFrontOf}
+use Rattle.dvd_loop.specs.Laws.{IsFaultless, IsPrefixOf}
 use Rattle.dvd_loop.specs.Machine.{IsOutcome, Outcome, Step, sized}
 use Rattle.dvd_loop.specs.Machine.Prefix.{Whole}
 use Rattle.dvd_loop.specs.UnitCommand.{written}
@@ -30,7 +30,7 @@ use Rattle.dvd_commands.specs.Captured.{HasBlocks, block_bytes, block_start, cap
 use Rattle.dvd_commands.specs.Master.{image_bytes, image_part}
 use Rattle.dvd_commands.specs.Recover.{IsImageDone, IsRecovered, recover_units}
 use Rattle.dvd_commands.specs.Inner.Performing.{sectors_out}
-use Rattle.dvd_commands.proofs.BorneBlocks.{captured-received, recovered_at}
+use Rattle.dvd_commands.proofs.BlocksWithinBound.{captured-received, recovered_at}
 use Rattle.dvd_commands.proofs.BlockUnits.{has_unit, part_there}
 use Rattle.dvd_commands.proofs.CapturedBlocks.{block-whole, start-sized}
 use Rattle.dvd_commands.proofs.master.Blocks.{size_is}
@@ -104,7 +104,7 @@ module _ (layout : Layout) (zones : Zones) (form : Form) (capture : List ℕ) (a
       let t = has_unit layout zones form (IsRecovered layout zones form) wide capture a runs none k entry stands is_image whole in
       let bytes : length (written t.steps) ≡ image_bytes layout entry = (wide k own t.steps t.kind t.does).0 ∙ size_is layout zones k entry stands in
       part_there (2048 * image_from entry.content) (image_bytes layout entry) t.before (written t.steps) a.out t.size bytes
-      (subst (λ l. IsFrontOf (t.before ++ l) a.out) (sym (append-nil (written t.steps))) t.out)
+      (subst (λ l. IsPrefixOf (t.before ++ l) a.out) (sym (append-nil (written t.steps))) t.out)
       ∙ written_is layout form k entry own t.steps t.kind (block-whole form capture (k + 1) whole k (omega arith))
       (recovered_at layout zones form k entry own t.steps t.kind stands is_image t.does)
 

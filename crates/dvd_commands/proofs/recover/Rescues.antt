@@ -25,7 +25,7 @@ use Rattle.dvd_commands.specs.Inner.Performing.{sectors_out}
 use Rattle.dvd_commands.proofs.PlanEntries.{has_numbers}
 use Rattle.dvd_commands.proofs.SectorsWritten.{sectors_front, sectors_more}
 use Rattle.dvd_commands.proofs.RecoveredWidths.{length-out}
-use Rattle.dvd_commands.proofs.BorneBlocks.{captured-received, recovered_at}
+use Rattle.dvd_commands.proofs.BlocksWithinBound.{captured-received, recovered_at}
 use Rattle.dvd_commands.proofs.ImageInBlocks.{data_block-made, few-sectors, sector}
 
 -- what a row weighs, by whether it is cheap and whether it is lost

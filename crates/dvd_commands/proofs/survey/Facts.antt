@@ -24,5 +24,5 @@ facts = record {
       captures_exist (blocks settings layout) settings.form (λ k own. refl)
       (λ before own. surveyed_some layout settings.zones settings.form before own) (λ before all. (_, refl)) bytes);
   alike = λ workers settings bytes outcome goes. (goes.0, layout_with workers settings goes.0 goes.1, goes.2);
-  lawful = λ settings none. none;
+  valid = λ settings none. none;
 }

@@ -29,7 +29,7 @@ pub record HasOpened (settings : Settings) (old new : Seen) (stated : Settings) 
   pub reads : Consumes old.bytes new.bytes own
   pub whole : length own ≡ 32
   pub header : IsHeaderOf settings stated own
-  pub lawful : broken_rule stated ≡ None
+  pub valid : broken_rule stated ≡ None
   pub lengths : IsLayoutOf stated layout
 
 -- A command may go over its blocks by these settings and their layout: they are those of its arguments, and nothing is

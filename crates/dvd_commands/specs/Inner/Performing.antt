@@ -65,7 +65,7 @@ pub record IsFoundBy (layout : Layout) (entry : BlockPlan) (rows : List (List �
 pub record Tells (entry : BlockPlan) (rows : List (List ℕ)) (marks : List (List Bool)) (format : Fields) : Type 0 where
   pub sectors : List (List ℕ)
   pub read : IsReadAs rows marks entry sectors
-  pub lawful : control_fault (line sectors 0) ≡ None
+  pub valid : control_fault (line sectors 0) ≡ None
   pub fields : format ≡ fields_in (line sectors 0)
 
 -- or it has none

@@ -2,7 +2,7 @@
 use Rattle.std.specs.Prelude.{◌≡◌, ℕ, ◌+◌, ◌<◌, ◌==◌, ◌≤◌, Bool, not, List, length, slice_index}
 use Rattle.dvd_capture.specs.MarkBits.{is_set}
 use Rattle.dvd_merge.specs.Join.{join, seen}
-use Rattle.dvd_merge.specs.Planes.{place_of}
+use Rattle.dvd_merge.specs.Planes.{place_from}
 use Rattle.dvd_merge.specs.declared.place.Place.{Place}
 
 -- whether a code says that no one byte is known of a place
@@ -11,7 +11,7 @@ is_unknown code = not (code == 1)
 
 -- place k of two planes
 abbrev pub at_place : List ℕ → List ℕ → ℕ → Place
-at_place values codes k = place_of (slice_index values k) (slice_index codes k)
+at_place values codes k = place_from (slice_index values k) (slice_index codes k)
 
 -- place k of two planes with what a capture knows of it joined to it
 abbrev pub joined_at : List ℕ → List ℕ → List ℕ → List ℕ → ℕ → Place

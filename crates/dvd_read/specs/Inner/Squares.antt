@@ -7,5 +7,5 @@ pub record IsRiffled (before after : List (List ℕ)) : Type 0 where
   pub each : (k n : ℕ) → k < 16 → n < 16 → place after k n ≡ place before (8 * (n % 2) + k / 2) (8 * (k % 2) + n / 2)
 
 -- sixteen vectors, transposed
-pub record IsTurned (before after : List (List ℕ)) : Type 0 where
+pub record IsTransposed (before after : List (List ℕ)) : Type 0 where
   pub each : (k n : ℕ) → k < 16 → n < 16 → place after k n ≡ place before n k

@@ -39,7 +39,7 @@ fn registers_of_one_recurrence_are_one(_rt: HostRuntime) -> Held {
 }
 
 #[test]
-fn layouts_of_other_numbers_are_lawful_and_unlike(_rt: HostRuntime) -> Held {
+fn layouts_of_other_numbers_are_valid_and_unlike(_rt: HostRuntime) -> Held {
     let layouts = [
         Layout::new(Shape::Parallel, 16, 16, 0, 1),
         Layout::new(Shape::Opposite, 16, 16, 0, 1),
@@ -69,7 +69,7 @@ fn format_with(at: usize, byte: u8) -> Result<PhysicalFormat, ControlFault> {
 }
 
 #[test]
-fn formats_with_another_byte_are_lawful_and_unlike(_rt: HostRuntime) -> Held {
+fn formats_with_another_byte_are_valid_and_unlike(_rt: HostRuntime) -> Held {
     let mut formats = [format_with(0, 0); 10];
     for (format, (at, byte)) in formats.iter_mut().zip(PLACES.iter().zip(&BYTES)) {
         *format = format_with(*at, *byte);

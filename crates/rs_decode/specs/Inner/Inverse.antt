@@ -6,14 +6,14 @@ use Rattle.coding.specs.Rows.{place}
 use Rattle.rs_decode.specs.Register.{total}
 
 -- the sum of row i's first bytes, each times a power of x, from the power 0 on
-unfoldable pub row_at : ℕ → List (List ℕ) → ℕ → ℕ → ℕ
-row_at count columns i x = total count (λ k. product (place columns k i) (power x k))
+unfoldable pub row_sum : ℕ → List (List ℕ) → ℕ → ℕ → ℕ
+row_sum count columns i x = total count (λ k. product (place columns k i) (power x k))
 
 -- Times the powers of the points, the matrix is the identity: row i gives 1 at point i, and 0 at all others.
 -- So it takes power sums of bytes at the points back to the bytes.
 pub record IsInverse (points : List ℕ) (columns : List (List ℕ)) : Type 0 where
   pub identity : (i j : ℕ) → i < length points → j < length points
-      → row_at (length points) columns i (slice_index points j) ≡ (if i == j then 1 else 0)
+      → row_sum (length points) columns i (slice_index points j) ≡ (if i == j then 1 else 0)
 
 -- The other way round it is the identity too: the power sums of column l are 0, but for the one with the number l, which is 1.
 -- So it takes any sums to bytes at the points that have them.

@@ -13,6 +13,6 @@ returns-clause-bytes c =
     let p2 : c.put_short-2.new.self ≡ page ++ t2 = more_pair page t1 (codes "h") (decimal (c.args.plot.now.width + 4)) p1 c.put_short-2.ensures.bytes in
     let t3 : List ℕ = t2 ++ codes "'/><text x='54' y='" ++ decimal (545 - 70 * c.args.i) in
     let p3 : c.put_short-3.new.self ≡ page ++ t3 = more_pair page t2 (codes "'/><text x='54' y='") (decimal (545 - 70 * c.args.i)) p2 c.put_short-3.ensures.bytes in
-    let t4 : List ℕ = t3 ++ codes "' text-anchor='end'>" ++ decimal (70 * c.args.plot.now.rows * c.args.i) in
-    let p4 : c.put_short-4.new.self ≡ page ++ t4 = more_pair page t3 (codes "' text-anchor='end'>") (decimal (70 * c.args.plot.now.rows * c.args.i)) p3 c.put_short-4.ensures.bytes in
+    let t4 : List ℕ = t3 ++ codes "' text-anchor='end'>" ++ decimal (70 * c.args.plot.now.scale * c.args.i) in
+    let p4 : c.put_short-4.new.self ≡ page ++ t4 = more_pair page t3 (codes "' text-anchor='end'>") (decimal (70 * c.args.plot.now.scale * c.args.i)) p3 c.put_short-4.ensures.bytes in
     more page t4 (codes "</text>\n") p4 c.put.ensures.bytes

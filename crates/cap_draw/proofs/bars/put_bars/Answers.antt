@@ -7,13 +7,13 @@ use Rattle.cap_draw.proofs.bars.put_bars.Goals as goal
 
 pub loop-c-init : goal.loop-c-init
 loop-c-init c = record {
-  bytes = texts_none c.args.page.now (λ k. bar c.args.plot.now.rows (column_of c.args.cells.now c.args.plot.now k));
+  bytes = texts_none c.args.page.now (λ k. bar c.args.plot.now.scale (column_of c.args.cells.now c.args.plot.now k));
   len = omega arith;
 }
 
 pub loop-c-preserved : goal.loop-c-preserved
 loop-c-preserved c = record {
-  bytes = texts_step _ (λ k. bar c.args.plot.now.rows (column_of c.args.cells.now c.args.plot.now k)) c.loop-c.c c.loop-c.invariant.bytes
-      (c.put_bar.ensures.bytes ∙ ap (λ column. c.loop-c.page ++ bar c.args.plot.now.rows column) c.column_of.ensures);
+  bytes = texts_step _ (λ k. bar c.args.plot.now.scale (column_of c.args.cells.now c.args.plot.now k)) c.loop-c.c c.loop-c.invariant.bytes
+      (c.put_bar.ensures.bytes ∙ ap (λ column. c.loop-c.page ++ bar c.args.plot.now.scale column) c.column_of.ensures);
   len = omega (arith, c.put_bar.ensures.len, c.loop-c.invariant.len);
 }

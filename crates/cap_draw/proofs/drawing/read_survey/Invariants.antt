@@ -1,7 +1,7 @@
 -- What each turn of the loop in `read_survey` keeps, and what it has left: no survey has 2^30 bytes.
 use Rattle.std.proofs.Common.{◌≡◌, ◌<◌, ◌-◌, ◌^◌, ◌++◌, ℕ, List}
 use Rattle.std.specs.Io.KnownBytes.{Consumes}
-use Rattle.cap_survey.specs.Survey.{progress, reading, survey_of}
+use Rattle.cap_survey.specs.Survey.{progress, reading_on, survey_of}
 use Rattle.dvd_ports.specs.Causes.{HasGoneOn}
 use Rattle.cap_draw.proofs.drawing.read_survey.Given as goal
 
@@ -9,7 +9,7 @@ abbrev pub invariant-loop-reading : goal.invariant-loop-reading
 invariant-loop-reading g l = record {
   text : List ℕ;
   reads : Consumes (g.S.Source.seen l.initial.src).bytes (g.S.Source.seen l.src).bytes text;
-  same : (more : List ℕ) → survey_of (text ++ more) ≡ reading l.reading more;
+  same : (more : List ℕ) → survey_of (text ++ more) ≡ reading_on l.reading more;
   on : HasGoneOn (g.S.Source.seen l.initial.src) (g.S.Source.seen l.src);
   bound : progress l.reading < 2 ^ 30;
 }

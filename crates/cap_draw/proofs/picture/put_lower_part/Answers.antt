@@ -1,6 +1,6 @@
 -- The proof of `put_lower_part` in src/picture.rt.
 use Rattle.std.proofs.Common.{◌≡◌, ◌++◌, List, ℕ}
-use Rattle.cap_draw.specs.Axes.{lower_frame, marks_frame, marks_line}
+use Rattle.cap_draw.specs.Axes.{lower_frame, marks_frame, band_line}
 use Rattle.cap_draw.specs.Bars.{failed_bars, refused_marks}
 use Rattle.cap_draw.specs.Picture.{lower_part}
 use Rattle.cap_draw.specs.Words.{legend}
@@ -19,6 +19,6 @@ returns-clause-bytes c =
     let p3 : c.put_marks_frame.new.page ≡ page ++ t3 = more page t2 (marks_frame c.args.plot.now) p2 c.put_marks_frame.ensures.bytes in
     let t4 : List ℕ = t3 ++ refused_marks c.args.cells.now c.args.plot.now c.args.plot.now.columns in
     let p4 : c.put_refused_marks.new.page ≡ page ++ t4 = more page t3 (refused_marks c.args.cells.now c.args.plot.now c.args.plot.now.columns) p3 c.put_refused_marks.ensures.bytes in
-    let t5 : List ℕ = t4 ++ marks_line c.args.plot.now in
-    let p5 : c.put_marks_line.new.page ≡ page ++ t5 = more page t4 (marks_line c.args.plot.now) p4 c.put_marks_line.ensures.bytes in
+    let t5 : List ℕ = t4 ++ band_line c.args.plot.now in
+    let p5 : c.put_marks_line.new.page ≡ page ++ t5 = more page t4 (band_line c.args.plot.now) p4 c.put_marks_line.ensures.bytes in
     more page t5 (legend) p5 c.put_legend.ensures.bytes

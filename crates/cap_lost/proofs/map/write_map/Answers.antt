@@ -1,8 +1,8 @@
 -- The proof of `write_map` in src/map.rt.
 use Rattle.std.proofs.Common.{◌≡◌, [], length, rules, subst, sym}
 use Rattle.dvd_ports.proofs.StopLemmas.{fails_after}
-use Rattle.cap_lost.specs.Inner.{IsLeft}
-use Rattle.cap_lost.specs.Map.{end_of, extent_lines, last_lines, lines_from, map_text}
+use Rattle.cap_lost.specs.Inner.{IsUnwritten}
+use Rattle.cap_lost.specs.Map.{last_end, extent_lines, last_lines, lines_from, map_text}
 use Rattle.cap_lost.specs.declared.map.TheConstants.{HEAD}
 use Rattle.cap_lost.proofs.Pieces.{begun_then, last_written, lines_cut, more_written, none_left, none_written, writes_failed}
 use Rattle.cap_lost.proofs.map.write_map.Goals as goal
@@ -28,8 +28,8 @@ returns-in_err-at g c =
     let back = c.split_at.result.1.now in
     let cut = lines_cut c.loop-rest.at lost.written c.args.total _ c.loop-rest.rest.now front back c.split_at.ensures.front c.split_at.ensures.back in
     writes_failed c.from_residual-in_err-at.result whole old new c.from_residual-in_err-at.ensures.0
-    (begun_then old mid new whole (extent_lines c.loop-rest.at front) (lines_from (end_of c.loop-rest.at front) back lost.written c.args.total)
-    (subst (λ l. IsLeft whole l old mid) cut c.loop-rest.invariant) c.in_err-at.ensures.begun)
+    (begun_then old mid new whole (extent_lines c.loop-rest.at front) (lines_from (last_end c.loop-rest.at front) back lost.written c.args.total)
+    (subst (λ l. IsUnwritten whole l old mid) cut c.loop-rest.invariant) c.in_err-at.ensures.begun)
     (fails_after old mid new c.loop-rest.invariant.steady c.in_err-at.ensures.cause.failed)
 
 pub loop-rest-preserved : goal.loop-rest-preserved
@@ -42,9 +42,9 @@ loop-rest-preserved g c =
     let front = c.split_at.result.0.now in
     let back = c.split_at.result.1.now in
     let cut = lines_cut c.loop-rest.at lost.written c.args.total _ c.loop-rest.rest.now front back c.split_at.ensures.front c.split_at.ensures.back in
-    subst (λ at. IsLeft whole (lines_from at back lost.written c.args.total) old new) (sym c.in_ok-at.ensures.end)
-    (more_written old mid new whole (extent_lines c.loop-rest.at front) (lines_from (end_of c.loop-rest.at front) back lost.written c.args.total)
-    (subst (λ l. IsLeft whole l old mid) cut c.loop-rest.invariant) c.in_ok-at.ensures.written c.in_ok-at.ensures.cause.steady)
+    subst (λ at. IsUnwritten whole (lines_from at back lost.written c.args.total) old new) (sym c.in_ok-at.ensures.end)
+    (more_written old mid new whole (extent_lines c.loop-rest.at front) (lines_from (last_end c.loop-rest.at front) back lost.written c.args.total)
+    (subst (λ l. IsUnwritten whole l old mid) cut c.loop-rest.invariant) c.in_ok-at.ensures.written c.in_ok-at.ensures.cause.steady)
 
 pub returns : goal.returns
 returns g c =
@@ -54,6 +54,6 @@ returns g c =
     let whole = map_text lost.extents.items lost.written c.args.total in
     let empty : length c.loop-rest.rest.now ≡ 0 = search rules in
     let none = none_left c.loop-rest.rest.now empty in
-    let left : IsLeft whole (lines_from c.loop-rest.at [] lost.written c.args.total) old mid =
-    subst (λ l. IsLeft whole (lines_from c.loop-rest.at l lost.written c.args.total) old mid) none c.loop-rest.invariant in
+    let left : IsUnwritten whole (lines_from c.loop-rest.at [] lost.written c.args.total) old mid =
+    subst (λ l. IsUnwritten whole (lines_from c.loop-rest.at l lost.written c.args.total) old mid) none c.loop-rest.invariant in
     last_written c.write_last.result whole (last_lines c.loop-rest.at lost.written c.args.total) old mid (g.K.Sink.seen c.write_last.new.out) left c.write_last.ensures

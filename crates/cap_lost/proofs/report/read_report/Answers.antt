@@ -1,19 +1,19 @@
 -- The proof of `read_report` in src/report.rt.
 use Rattle.std.proofs.Common.{◌≡◌, ◌+◌, ◌-◌, ◌*◌, ◌^◌, ◌<◌, ◌≤◌, ℕ, length, take, arith, Option, None, Some}
 use Rattle.std.proofs.lemmas.List.{length-take-le}
-use Rattle.cap_lost.specs.Inner.{HasMoved, IsSound, ended}
-use Rattle.cap_lost.specs.Reads.{IsRefused}
+use Rattle.cap_lost.specs.Inner.{HasReadOn, IsReaderSound, closing_count}
+use Rattle.cap_lost.specs.Reads.{IsReportRefused}
 use Rattle.cap_lost.specs.declared.reader.Reader.{Reader}
 use Rattle.cap_lost.proofs.Comings.{more_came, piece_refused}
 use Rattle.cap_lost.proofs.Readings.{err_from}
 use Rattle.cap_lost.proofs.report.read_report.Goals as goal
 
-ended_most : (written : Option ℕ) → ended written ≤ 1
+ended_most : (written : Option ℕ) → closing_count written ≤ 1
 ended_most None = omega arith
 ended_most (Some written) = omega arith
 
 -- what is left of the lines that a report may have gets less
-smaller : (old new : Reader) (bytes : ℕ) → 0 < bytes → IsSound old → HasMoved bytes old new
+smaller : (old new : Reader) (bytes : ℕ) → 0 < bytes → IsReaderSound old → HasReadOn bytes old new
     → 129 * 2 ^ 33 - (129 * new.number + length new.line.items) < 129 * 2 ^ 33 - (129 * old.number + length old.line.items)
 smaller old new bytes some sound moved =
     let number = sound.number in
@@ -40,6 +40,6 @@ returns-in_err-take-in-Ok-clause-refused g c =
     let some : 0 < c.in-Ok.count = omega (arith, c.in-Ok.count-test) in
     let old = g.S.Source.seen c.args.src.now in
     let new = g.S.Source.seen c.read.new.self in
-    err_from (IsRefused c.args.layout c.args.zones old new) c.from_residual.result c.in_err-take-in-Ok.field-0.0 c.from_residual.ensures.1
+    err_from (IsReportRefused c.args.layout c.args.zones old new) c.from_residual.result c.in_err-take-in-Ok.field-0.0 c.from_residual.ensures.1
     (piece_refused c.args.layout c.args.zones old (g.S.Source.seen c.loop-reader.src) new c.loop-reader.reader c.loop-reader.invariant (take c.in-Ok.count c.read.new.buf)
     c.in_err-take-in-Ok.field-0.0 c.in-Ok.ensures.call.bytes.0 (c.in-Ok.ensures.call.moved some).goes_on c.in_err-take-in-Ok.ensures.rule)

@@ -2,9 +2,9 @@
 use Rattle.std.proofs.Common.{◌≡◌, ◌∙◌, ◌+◌, ◌<◌, ℕ, List, Ok, Err, Result, length, take, drop, ap, sym, arith, rules, length-drop}
 use Rattle.cap_map.specs.Fields.{line_length, lines_of}
 use Rattle.cap_map.specs.Inner.{read_of}
-use Rattle.cap_map.specs.Lines.{fields_of}
-use Rattle.cap_map.specs.Map.{Read, after_line, line_read, lines_read}
-use Rattle.cap_map.specs.declared.fault.Cause.{Cause}
+use Rattle.cap_map.specs.Lines.{line_fields}
+use Rattle.cap_map.specs.Map.{MapRead, after_line, line_read, lines_read}
+use Rattle.cap_map.specs.declared.fault.MapCause.{MapCause}
 use Rattle.cap_map.specs.declared.fault.MapFault.{MapFault}
 use Rattle.cap_map.specs.declared.fault.MapFault.TheVariants.{Rule}
 use Rattle.cap_map.specs.declared.span.Span.{Span}
@@ -12,25 +12,25 @@ use Rattle.cap_map.proofs.FirstLine.{first_line}
 use Rattle.cap_map.proofs.map.read_map.Goals as goal
 
 -- the lines of a text are read by its first line, and then those after it
-by_first : (good : List ℕ) (read : Read) (n : ℕ) (text : List ℕ) → 0 < length text
+by_first : (good : List ℕ) (read : MapRead) (n : ℕ) (text : List ℕ) → 0 < length text
     → lines_read good read n (lines_of text)
-    ≡ after_line n (line_read good read (fields_of (take (line_length text) text))) (λ next. lines_read good next (n + 1) (lines_of (drop (line_length text + 1) text)))
+    ≡ after_line n (line_read good read (line_fields (take (line_length text) text))) (λ next. lines_read good next (n + 1) (lines_of (drop (line_length text + 1) text)))
 by_first good read n text some = ap (lines_read good read n) (first_line text some)
 
 -- where the first line is read
-goes_on : (good : List ℕ) (read next : Read) (n end : ℕ) (text rest : List ℕ) → 0 < length text → end ≡ line_length text → rest ≡ drop (end + 1) text
-    → line_read good read (fields_of (take end text)) ≡ Ok next → lines_read good next (n + 1) (lines_of rest) ≡ lines_read good read n (lines_of text)
+goes_on : (good : List ℕ) (read next : MapRead) (n end : ℕ) (text rest : List ℕ) → 0 < length text → end ≡ line_length text → rest ≡ drop (end + 1) text
+    → line_read good read (line_fields (take end text)) ≡ Ok next → lines_read good next (n + 1) (lines_of rest) ≡ lines_read good read n (lines_of text)
 goes_on good read next n end text rest some at left is =
-    let then : Result Read Cause → Result (List Span) MapFault = λ r. after_line n r (λ x. lines_read good x (n + 1) (lines_of (drop (line_length text + 1) text))) in
+    let then : Result MapRead MapCause → Result (List Span) MapFault = λ r. after_line n r (λ x. lines_read good x (n + 1) (lines_of (drop (line_length text + 1) text))) in
     ap (λ r. lines_read good next (n + 1) (lines_of r)) (left ∙ ap (λ e. drop (e + 1) text) at)
-    ∙ ap then (sym is ∙ ap (λ e. line_read good read (fields_of (take e text))) at) ∙ sym (by_first good read n text some)
+    ∙ ap then (sym is ∙ ap (λ e. line_read good read (line_fields (take e text))) at) ∙ sym (by_first good read n text some)
 
 -- and where it breaks a rule
-stops : (good : List ℕ) (read : Read) (n end : ℕ) (text : List ℕ) (cause : Cause) → 0 < length text → end ≡ line_length text
-    → line_read good read (fields_of (take end text)) ≡ Err cause → lines_read good read n (lines_of text) ≡ Err (Rule n cause)
+stops : (good : List ℕ) (read : MapRead) (n end : ℕ) (text : List ℕ) (cause : MapCause) → 0 < length text → end ≡ line_length text
+    → line_read good read (line_fields (take end text)) ≡ Err cause → lines_read good read n (lines_of text) ≡ Err (Rule n cause)
 stops good read n end text cause some at is =
-    let then : Result Read Cause → Result (List Span) MapFault = λ r. after_line n r (λ x. lines_read good x (n + 1) (lines_of (drop (line_length text + 1) text))) in
-    by_first good read n text some ∙ ap then (ap (λ e. line_read good read (fields_of (take e text))) (sym at) ∙ is)
+    let then : Result MapRead MapCause → Result (List Span) MapFault = λ r. after_line n r (λ x. lines_read good x (n + 1) (lines_of (drop (line_length text + 1) text))) in
+    by_first good read n text some ∙ ap then (ap (λ e. line_read good read (line_fields (take e text))) (sym at) ∙ is)
 
 pub returns-in-Err-Rule-clause-rule : goal.returns-in-Err-Rule-clause-rule
 returns-in-Err-Rule-clause-rule c =

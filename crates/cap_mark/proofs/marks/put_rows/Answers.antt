@@ -1,7 +1,7 @@
 -- The proof of `put_rows` in src/marks.rt.
 use Rattle.std.proofs.Common.{◌≡◌, ◌∙◌, ◌+◌, ◌-◌, ◌*◌, ◌++◌, ap, refl, sym, arith, append_assoc, slice_range, length, drop, length-drop, length-take}
 use Rattle.cap_mark.specs.Frames.{marked_rows}
-use Rattle.cap_mark.specs.Marks.{marks_of_row}
+use Rattle.cap_mark.specs.Marks.{row_mark_bytes}
 use Rattle.cap_mark.proofs.MarkLemmas.{row_agree, rows_more, rows_none}
 use Rattle.cap_mark.proofs.SpanLemmas.{agree_later}
 use Rattle.cap_mark.proofs.marks.put_rows.Goals as goal
@@ -25,7 +25,7 @@ loop-n-preserved c =
     record {
       agree = λ k above. agree k (omega arith);
       items = c.put_marks.ensures.items ∙ ap (λ m. c.put.new.out.items ++ m) (row_agree left spans (start + 182 * n) agree)
-          ∙ ap (λ l. l ++ marks_of_row spans (start + 182 * n)) (c.put.ensures.items ∙ ap (λ l. l ++ row) c.loop-n.invariant.items)
-          ∙ append_assoc (marked_rows spans start c.args.frame.now n) row (marks_of_row spans (start + 182 * n)) ∙ sym (rows_more spans start n c.args.frame.now);
+          ∙ ap (λ l. l ++ row_mark_bytes spans (start + 182 * n)) (c.put.ensures.items ∙ ap (λ l. l ++ row) c.loop-n.invariant.items)
+          ∙ append_assoc (marked_rows spans start c.args.frame.now n) row (row_mark_bytes spans (start + 182 * n)) ∙ sym (rows_more spans start n c.args.frame.now);
       len = c.put_marks.ensures.len ∙ omega (arith, c.put.ensures.len, c.loop-n.invariant.len, whole);
     }

@@ -27,17 +27,17 @@ returns-in_err-check_length-clause-broken c = λ head count size first.
     (subst (BreaksIn (head ++ c.args.fields.now)) (sym breaks.0)
     (broken-length-in head c.args.fields.now count c.loop-i.i c.loop-i.taken.end (mark_of (marks_rows c.loop-i.marks)) (c.loop-i.invariant.runs head count size first)
     (omega (arith, inside, size)) c.field-start.result c.field-start.ensures.value c.field-length.result c.field-length.ensures.value (omega (arith, inside))
-    c.in_ok-check_start.ensures.lawful breaks.1))
+    c.in_ok-check_start.ensures.valid breaks.1))
 
 pub loop-i-preserved : goal.loop-i-preserved
 loop-i-preserved c = record {
   count = refl;
   runs = λ head count size first.
       let inside = c.loop-i-test.true in
-      let lawful = c.in_ok-check_length.ensures.lawful in
+      let valid = c.in_ok-check_length.ensures.valid in
       run-in head c.args.fields.now count c.loop-i.i c.loop-i.taken.end (mark_of (marks_rows c.loop-i.marks)) (c.loop-i.invariant.runs head count size first)
       (omega (arith, inside, size)) c.field-start.result c.field-start.ensures.value c.field-length.result c.field-length.ensures.value (omega (arith, inside))
-      c.in_ok-check_start.ensures.lawful (mark_of (marks_rows c.mark_places.new.marks)) lawful.0 lawful.1 c.mark_places.ensures;
+      c.in_ok-check_start.ensures.valid (mark_of (marks_rows c.mark_places.new.marks)) valid.0 valid.1 c.mark_places.ensures;
 }
 
 pub returns-in_err-check_start-2-clause-broken : goal.returns-in_err-check_start-2-clause-broken
@@ -56,7 +56,7 @@ returns-in_ok-check_start-2-clause-taken c = λ head count size first.
       runs = runs-same head c.args.fields.now count c.loop-i.taken.runs c.loop-i.i c.loop-i.taken.end (mark_of (marks_rows c.loop-i.marks)) c.loop-i.invariant.count (c.loop-i.invariant.runs head count size first);
       whole = omega (arith, over, most, same);
       few = omega (arith, over, most, same);
-      start = λ stands. subst (λ v. (v < 37_856) × (0 < c.loop-i.taken.runs → c.loop-i.taken.end < v)) c.field.ensures.value c.in_ok-check_start-2.ensures.lawful;
+      start = λ stands. subst (λ v. (v < 37_856) × (0 < c.loop-i.taken.runs → c.loop-i.taken.end < v)) c.field.ensures.value c.in_ok-check_start-2.ensures.valid;
     }
 
 pub returns-else-fields-ge2-clause-taken : goal.returns-else-fields-ge2-clause-taken

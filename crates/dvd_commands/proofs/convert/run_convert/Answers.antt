@@ -10,7 +10,7 @@ pub returns-clause-performed : goal.returns-clause-performed
 returns-clause-performed g c = λ report.
     let settings = c.args.start.now.settings.now in
     let layout = c.in_ok-layout.layout in record {
-      lawful = subst (λ command. (meaning command).breaks settings ≡ None) (sym c.requires.command) (c.in_ok-layout.ensures.lawful refl);
+      valid = subst (λ command. (meaning command).breaks settings ≡ None) (sym c.requires.command) (c.in_ok-layout.ensures.valid refl);
       loop = ended_as (Converts settings layout) (GoesOver settings) _ _ c.convert_loop.result
           (λ bytes outcome converts.
           let (opening, header, runs) = converts in

@@ -7,7 +7,7 @@ use Rattle.dvd_loop.specs.declared.ends.LoopEnd.{LoopEnd}
 use Rattle.dvd_commands.specs.Performed.{HasGoneOver, HasLooped, IsPerformed, IsPerformedByWords}
 use Rattle.dvd_commands.specs.declared.refusal.Refusal.{Refusal}
 use Rattle.dvd_commands.specs.declared.refusal.Refusal.TheVariants.{NoMemory, Setting}
-use Rattle.dvd_words.specs.Reading.{IsLawful, takes_listed}
+use Rattle.dvd_words.specs.Reading.{IsValid, takes_listed}
 use Rattle.dvd_words.specs.declared.table.Command.{Command}
 use Rattle.dvd_words.specs.declared.table.Command.TheVariants.{CdMake, CdRead, Convert, Exercise, Frames, Master, Merge}
 use Rattle.dvd_words.specs.declared.settings.Settings.{Settings}
@@ -15,24 +15,24 @@ use Rattle.dvd_commands.proofs.opening.HeaderTaken.{breaks_by_words, gone_over, 
 use Rattle.dvd_commands.proofs.dispatch.perform.Goals as goal
 
 -- a command that reads no listed captures is given no such form
-sized : (settings : Settings) (command : Command) → IsLawful settings → settings.command ≡ command → takes_listed command ≡ false → HasSize settings.form
-sized settings command lawful is not listed =
-    let takes : takes_listed command ≡ true = subst (λ c. takes_listed c ≡ true) is (lawful.listed listed) in
+sized : (settings : Settings) (command : Command) → IsValid settings → settings.command ≡ command → takes_listed command ≡ false → HasSize settings.form
+sized settings command valid is not listed =
+    let takes : takes_listed command ≡ true = subst (λ c. takes_listed c ≡ true) is (valid.listed listed) in
     let no : false ≡ true = sym not ∙ takes in cc
 
 -- a command without a layout, which has gone over its units, has run;
-alone : (command : Command) (settings : Settings) → IsLawful settings → settings.command ≡ command → takes_listed command ≡ false
+alone : (command : Command) (settings : Settings) → IsValid settings → settings.command ≡ command → takes_listed command ≡ false
     → (old new : Streams) (end : LoopEnd) → HasGoneOver settings old new end → HasLooped settings old new end
-alone command settings lawful is not old new end gone = looped_by_words settings (sized settings command lawful is not) old new end gone
+alone command settings valid is not old new end gone = looped_by_words settings (sized settings command valid is not) old new end gone
 
 -- and what a command did by its words alone is what it did
-by_words : (command : Command) (settings : Settings) → IsLawful settings → settings.command ≡ command → takes_listed command ≡ false
+by_words : (command : Command) (settings : Settings) → IsValid settings → settings.command ≡ command → takes_listed command ≡ false
     → (old new : Streams) (answer : Result LoopEnd Refusal) → IsPerformedByWords settings old new answer → IsPerformed settings old new answer
-by_words command settings lawful is not old new (Ok end) gone = alone command settings lawful is not old new end gone
-by_words command settings lawful is not old new (Err (Setting fault)) breaks =
-    breaks_by_words settings.form (sized settings command lawful is not) settings ∙ breaks
-by_words command settings lawful is not old new (Err NoMemory) unbroken =
-    breaks_by_words settings.form (sized settings command lawful is not) settings ∙ unbroken
+by_words command settings valid is not old new (Ok end) gone = alone command settings valid is not old new end gone
+by_words command settings valid is not old new (Err (Setting fault)) breaks =
+    breaks_by_words settings.form (sized settings command valid is not) settings ∙ breaks
+by_words command settings valid is not old new (Err NoMemory) unbroken =
+    breaks_by_words settings.form (sized settings command valid is not) settings ∙ unbroken
 
 pub returns-in-Frames-clause-performed : goal.returns-in-Frames-clause-performed
 returns-in-Frames-clause-performed g c = alone Frames c.args.settings.now c.requires c.in-Frames.is refl _ _ c.frames_loop.result

@@ -8,5 +8,5 @@ pub returns-clause-performed : goal.returns-clause-performed
 returns-clause-performed g c = λ report.
     let settings = c.args.start.now.settings.now in
     let layout = c.in_ok-layout.layout in
-    gone_over Master settings c.requires.command (c.in_ok-layout.ensures.lawful refl) layout c.in_ok-layout.ensures.lengths
+    gone_over Master settings c.requires.command (c.in_ok-layout.ensures.valid refl) layout c.in_ok-layout.ensures.lengths
     _ _ c.master_loop.result (c.master_loop.ensures.follows report)

@@ -2,7 +2,7 @@
 use Rattle.std.proofs.Common.{◌∙◌, ap, rules}
 use Rattle.dvd_capture.specs.Laws.{FitsHeader}
 use Rattle.dvd_commands.specs.Opening.{shape_number}
-use Rattle.dvd_commands.proofs.opening.Headers.{broken_by, lawful_by, stated_by, zones_for}
+use Rattle.dvd_commands.proofs.opening.Headers.{broken_by, valid_by, stated_by, zones_for}
 use Rattle.dvd_commands.proofs.opening.OneHeader.{length-header}
 use Rattle.dvd_commands.proofs.opening.layout_of.Goals as goal
 
@@ -16,7 +16,7 @@ returns-in-Ok c = λ left.
       length-header header,
       λ settings. (
         stated_by header numbers zones c.zones_of.ensures layout (ap shape_number is.shape ∙ c.shape_of.ensures) is.sectors0 is.sectors1 is.initial is.tail settings,
-        lawful_by layout zones c.shape_of.result header.sectors0 header.sectors1 header.initial header.tail is.shape is.sectors0 is.sectors1 is.initial is.tail is.lawful settings,
+        valid_by layout zones c.shape_of.result header.sectors0 header.sectors1 header.initial header.tail is.shape is.sectors0 is.sectors1 is.initial is.tail is.valid settings,
       ),
     )
 

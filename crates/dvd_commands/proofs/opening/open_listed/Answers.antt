@@ -14,7 +14,7 @@ returns-in-Found-clause-opened g c =
       reads = header.reads;
       whole = header.answers.0;
       header = (header.answers.1 c.args.settings.now).0;
-      lawful = (header.answers.1 c.args.settings.now).1;
+      valid = (header.answers.1 c.args.settings.now).1;
       lengths = record { shape = refl; sectors0 = refl; sectors1 = refl; initial = refl; tail = refl };
     }
 

@@ -8,13 +8,13 @@ use Rattle.coding.specs.Recording.{row_at}
 use Rattle.dvd_block.proofs.RowParts.{length-part_written}
 use Rattle.dvd_block.proofs.Recorded.{recorded, recorded-none, recording-is}
 use Rattle.dvd_merge.specs.MarkedText.{marked_row}
-use Rattle.dvd_merge.specs.Planes.{place_of, row_of, table_in}
+use Rattle.dvd_merge.specs.Planes.{place_from, row_of, table_of_planes}
 use Rattle.dvd_merge.proofs.Lattice.{zip2-row}
 use Rattle.dvd_merge.proofs.Texts.{record_is, record_more}
 use Rattle.dvd_merge.proofs.record.fill_text.Goals as goal
 
 pub loop-m-init : goal.loop-m-init
-loop-m-init c = record { record_size = omega arith; size = omega arith; front = sym (recorded-none 0 (map marked_row (table_in c.args.values.now c.args.codes.now))) }
+loop-m-init c = record { record_size = omega arith; size = omega arith; front = sym (recorded-none 0 (map marked_row (table_of_planes c.args.values.now c.args.codes.now))) }
 
 pub loop-m-preserved : goal.loop-m-preserved
 loop-m-preserved c =
@@ -22,12 +22,12 @@ loop-m-preserved c =
     let width : ℕ = 205 * m + 205 - 205 * m in
     let text : List ℕ = c.loop-m.text in
     let part : List ℕ = c.copy_from_slice.new.self in
-    let rows : List (List ℕ) = map marked_row (table_in c.args.values.now c.args.codes.now) in
+    let rows : List (List ℕ) = map marked_row (table_of_planes c.args.values.now c.args.codes.now) in
     let is : part ≡ line rows (row_at m) =
-    record_is (table_in c.args.values.now c.args.codes.now) m c.row_of_record-i.result part
+    record_is (table_of_planes c.args.values.now c.args.codes.now) m c.row_of_record-i.result part
     (length-zip2 row_of c.args.values.now c.args.codes.now (c.requires.values ∙ sym c.requires.codes) ∙ c.requires.values)
     c.row_of_record-i.ensures.within c.row_of_record-i.ensures.value
-    (c.copy_from_slice.ensures.after ∙ c.fill_record.ensures ∙ ap marked_row (sym (zip2-row place_of c.args.values.now c.args.codes.now c.row_of_record-i.result))) in
+    (c.copy_from_slice.ensures.after ∙ c.fill_record.ensures ∙ ap marked_row (sym (zip2-row place_from c.args.values.now c.args.codes.now c.row_of_record-i.result))) in
     let size : length part ≡ 205 = ap length c.copy_from_slice.ensures.after ∙ c.fill_record.array_long in
     record {
       record_size = c.fill_record.array_long;
@@ -39,7 +39,7 @@ loop-m-preserved c =
 
 pub returns : goal.returns
 returns c =
-    let rows : List (List ℕ) = map marked_row (table_in c.args.values.now c.args.codes.now) in
+    let rows : List (List ℕ) = map marked_row (table_of_planes c.args.values.now c.args.codes.now) in
     let all : c.loop-m.m ≡ 208 = omega (arith, c.loop-m.auto.m-end, c.loop-m-test.false) in
     sym (take_all (205 * c.loop-m.m) c.loop-m.text (omega (arith, c.loop-m.invariant.size, all)))
     ∙ c.loop-m.invariant.front ∙ ap (λ m. recorded 0 m rows) all ∙ sym (recording-is rows)

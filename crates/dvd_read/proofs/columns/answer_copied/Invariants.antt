@@ -4,7 +4,7 @@ use Rattle.coding.specs.Filling.{AgreeUnmarked}
 use Rattle.coding.specs.Product.{column}
 use Rattle.coding.specs.TwoPass.{column_answer, failed_of}
 use Rattle.dvd_capture.specs.declared.parts.ColumnAnswer.{ColumnAnswer}
-use Rattle.dvd_read.specs.Parts.{answer_word, bytes_of, column_word}
+use Rattle.dvd_read.specs.Parts.{answer_word, answer_bytes, column_word}
 use Rattle.dvd_read.proofs.columns.answer_copied.Given as goal
 
 -- the columns of the groups that are done are answered, and the others are copied still
@@ -14,7 +14,7 @@ invariant-loop-group l = record {
   answered : (k : ℕ) (d : ColumnAnswer) → k < 32 * l.group → k < length l.piece
       → column_word (get_or l.piece k d) ≡ column_answer (map answer_word l.answers) (l.start + k);
   kept : l.are_kept ≡ true → (k : ℕ) (d : ColumnAnswer) → k < 32 * l.group → k < length l.piece
-      → AgreeUnmarked (failed_of (map answer_word l.answers)) (column (bytes_of l.answers) (l.start + k)) (get_or l.piece k d).bytes;
+      → AgreeUnmarked (failed_of (map answer_word l.answers)) (column (answer_bytes l.answers) (l.start + k)) (get_or l.piece k d).bytes;
   others : (k : ℕ) (d : ColumnAnswer) → 32 * l.group ≤ k → k < length l.piece
-      → (get_or l.piece k d).bytes ≡ column (bytes_of l.answers) (l.start + k);
+      → (get_or l.piece k d).bytes ≡ column (answer_bytes l.answers) (l.start + k);
 }

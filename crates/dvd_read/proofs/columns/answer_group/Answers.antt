@@ -8,7 +8,7 @@ use Rattle.coding.specs.Nearest.{near_of}
 use Rattle.coding.specs.Product.{column}
 use Rattle.coding.specs.TwoPass.{failed_of}
 use Rattle.dvd_capture.specs.declared.parts.ColumnAnswer.{ColumnAnswer}
-use Rattle.dvd_read.specs.Parts.{answer_word, bytes_of}
+use Rattle.dvd_read.specs.Parts.{answer_word, answer_bytes}
 use Rattle.dvd_read.proofs.ColumnAnswers.{blank_column}
 use Rattle.dvd_read.proofs.MarkedColumns.{column_vanishes, marked-answer}
 use Rattle.dvd_read.proofs.columns.answer_group.Goals as goal
@@ -16,7 +16,7 @@ use Rattle.dvd_read.proofs.columns.answer_group.Goals as goal
 pub fill_column-requires-clause-wrong : goal.fill_column-requires-clause-wrong
 fill_column-requires-clause-wrong c = λ zero_is.
     let n : ℕ = c.args.start - c.min-left.result + c.loop-k.k in
-    let word : ℕ → List ℕ = λ (j : ℕ). column (bytes_of c.args.answers.now) j in
+    let word : ℕ → List ℕ = λ (j : ℕ). column (answer_bytes c.args.answers.now) j in
     let below : n < 32 = omega (arith, c.min-left.ensures, c.requires.columns, c.requires.few, c.loop-k-test.true) in
     let at : c.min-left.result + n ≡ c.args.start + c.loop-k.k = omega (arith, c.min-left.ensures) in
     let lane : get_or c.any_of-wrong.result n 0 ≡ 0 =
@@ -35,7 +35,7 @@ returns-clause-columns c = record {
   are = λ k d within.
       c.loop-k.invariant.answered k d (omega arith)
       ∙ ap (λ (word : List ℕ). near_of 208 16 word c.args.erasures.now.marks) (c.requires.own.are k d (omega arith))
-      ∙ ap (near_of 208 16 (column (bytes_of c.args.answers.now) (c.args.start + k))) c.requires.marks
+      ∙ ap (near_of 208 16 (column (answer_bytes c.args.answers.now) (c.args.start + k))) c.requires.marks
       ∙ marked-answer c.args.answers.now (c.args.start + k) c.requires.rows;
 }
 

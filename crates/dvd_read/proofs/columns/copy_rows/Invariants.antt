@@ -8,7 +8,7 @@ use Rattle.dvd_read.proofs.columns.copy_rows.Given as goal
 abbrev pub invariant-loop-j : goal.invariant-loop-j
 invariant-loop-j l = record {
   wide : (k : ℕ) (d : ColumnAnswer) → k < l.j → length (get_or l.piece k d).bytes ≡ 208;
-  set : (k n : ℕ) (d : ColumnAnswer) → k < l.j → n < 32 → get_or (get_or l.piece k d).bytes (l.top + n) 0 ≡ place l.turned (l.start - l.at + k) n;
+  set : (k n : ℕ) (d : ColumnAnswer) → k < l.j → n < 32 → get_or (get_or l.piece k d).bytes (l.top + n) 0 ≡ place l.transposed (l.start - l.at + k) n;
   below : (k i : ℕ) (d : ColumnAnswer) → k < l.j → i < l.top → get_or (get_or l.piece k d).bytes i 0 ≡ get_or (get_or l.fn.piece k d).bytes i 0;
   others : (k : ℕ) (d : ColumnAnswer) → l.j ≤ k → get_or l.piece k d ≡ get_or l.fn.piece k d;
 }

@@ -7,7 +7,7 @@ use Rattle.dvd_read.proofs.columns.fill_column.Goals as goal
 
 pub returns-then-wrong-eq0-clause-answered : goal.returns-then-wrong-eq0-clause-answered
 returns-then-wrong-eq0-clause-answered c = λ _.
-    sym (own-marked 208 16 c.args.column.now.bytes c.args.erasures.now.marks (omega arith) c.args.erasures.now.size c.requires.borne
+    sym (own-marked 208 16 c.args.column.now.bytes c.args.erasures.now.marks (omega arith) c.args.erasures.now.size c.requires.within
     (c.requires.wrong c.if-wrong-eq0.true))
 
 pub returns-then-wrong-eq0-clause-kept : goal.returns-then-wrong-eq0-clause-kept

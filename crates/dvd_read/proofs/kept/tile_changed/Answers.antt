@@ -1,6 +1,6 @@
 -- The proof of `tile_changed` in src/kept.rt.
 use Rattle.std.proofs.Common.{◌≡◌, ◌+◌, ◌-◌, [], get_or, ◌∙◌, sym, subst, arith}
-use Rattle.dvd_read.specs.Parts.{bytes_of}
+use Rattle.dvd_read.specs.Parts.{answer_bytes}
 use Rattle.dvd_read.proofs.ColumnAnswers.{blank_column}
 use Rattle.dvd_read.proofs.kept.tile_changed.Goals as goal
 
@@ -12,9 +12,9 @@ returns-clause-zeros c = λ n below.
       (λ none j d from under.
           let k = j - at in
           let here : at + k ≡ j = omega arith in
-          subst (λ m. get_or (get_or c.args.columns.now m d).bytes i 0 ≡ get_or (get_or (bytes_of c.args.answers.now) i []) m 0) here
-          ((c.loop-j.invariant.set k n d (omega arith) below).0 (tells.0 none k (omega arith)) ∙ c.load_turned-turned.ensures.turned k n (omega arith) below)),
+          subst (λ m. get_or (get_or c.args.columns.now m d).bytes i 0 ≡ get_or (get_or (answer_bytes c.args.answers.now) i []) m 0) here
+          ((c.loop-j.invariant.set k n d (omega arith) below).0 (tells.0 none k (omega arith)) ∙ c.load_transposed-transposed.ensures.transposed k n (omega arith) below)),
       (λ kept. tells.1 (λ k few.
           (c.loop-j.invariant.set k n blank_column (omega arith) below).1
-          (kept (at + k) blank_column (omega arith) (omega arith) ∙ sym (c.load_turned-turned.ensures.turned k n few below)))),
+          (kept (at + k) blank_column (omega arith) (omega arith) ∙ sym (c.load_transposed-transposed.ensures.transposed k n few below)))),
     )

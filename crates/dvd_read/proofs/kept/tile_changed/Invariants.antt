@@ -9,5 +9,5 @@ abbrev pub invariant-loop-j : goal.invariant-loop-j
 invariant-loop-j l = record {
   size : length l.differences ≡ 16;
   set : (k n : ℕ) (d : ColumnAnswer) → k < l.j → n < 32
-      → (place l.differences k n ≡ 0) ↔ (get_or (get_or l.columns (l.at + k) d).bytes (l.top + n) 0 ≡ place l.turned k n);
+      → (place l.differences k n ≡ 0) ↔ (get_or (get_or l.columns (l.at + k) d).bytes (l.top + n) 0 ≡ place l.transposed k n);
 }

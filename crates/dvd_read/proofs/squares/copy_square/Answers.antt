@@ -1,6 +1,6 @@
 -- The proof of `copy_square` in src/squares.rt.
 use Rattle.std.proofs.Common.{◌≡◌, ℕ, ◌+◌, [], get_or, ◌∙◌, arith}
-use Rattle.dvd_read.specs.Parts.{bytes_of}
+use Rattle.dvd_read.specs.Parts.{answer_bytes}
 use Rattle.dvd_read.proofs.LanesInTurns.{sixteen_more}
 use Rattle.dvd_read.proofs.squares.copy_square.Goals as goal
 
@@ -10,10 +10,10 @@ returns-clause-copied c = λ copied j i d within below.
     sixteen_more
     (λ (k : ℕ).
     get_or (get_or c.loop-j.piece j d).bytes k 0
-    ≡ get_or (get_or (bytes_of c.args.answers.now) k []) (c.args.start + j) 0)
+    ≡ get_or (get_or (answer_bytes c.args.answers.now) k []) (c.args.start + j) 0)
     c.args.top
     (λ k under. done.below j k d (omega (arith, done.size)) under ∙ copied j k d (omega (arith, done.size)) under)
     (λ n inside.
     done.set j n d (omega (arith, done.size)) inside
-    ∙ c.load_square-square.ensures.turned j n (omega (arith, done.size)) inside)
+    ∙ c.load_square-square.ensures.transposed j n (omega (arith, done.size)) inside)
     i below

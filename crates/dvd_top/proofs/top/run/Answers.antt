@@ -2,7 +2,7 @@
 use Rattle.std.proofs.Common.{◌≡◌, ◌≢◌, true, false, inr, Some, map, string_bytes, refl, ap, sym, subst, ◌∙◌}
 use Rattle.dvd_capture.specs.declared.form.Form.TheVariants.{Listed}
 use Rattle.dvd_loop.specs.Streams.{streams}
-use Rattle.dvd_words.specs.Reading.{IsLawful, reading, takes_listed}
+use Rattle.dvd_words.specs.Reading.{IsValid, reading, takes_listed}
 use Rattle.dvd_words.specs.declared.table.Command.{Command}
 use Rattle.dvd_words.specs.declared.table.Command.TheVariants.{CdRead, Master}
 use Rattle.dvd_words.specs.declared.settings.Settings.{Settings}
@@ -19,9 +19,9 @@ use Rattle.dvd_top.proofs.RunLemmas.{has_failed, has_run, same_settings}
 use Rattle.dvd_top.proofs.top.run.Goals as goal
 
 -- a command that takes no listed capture reads none
-not_listed : (settings : Settings) (command : Command) → IsLawful settings → takes_listed command ≡ false → settings.command ≡ command → settings.form ≢ Listed
-not_listed settings command lawful takes is listed =
-    let no : false ≡ true = sym takes ∙ ap takes_listed (sym is) ∙ lawful.listed listed in cc
+not_listed : (settings : Settings) (command : Command) → IsValid settings → takes_listed command ≡ false → settings.command ≡ command → settings.form ≢ Listed
+not_listed settings command valid takes is listed =
+    let no : false ≡ true = sym takes ∙ ap takes_listed (sym is) ∙ valid.listed listed in cc
 
 pub returns-in-Ok-perform : goal.returns-in-Ok-perform
 returns-in-Ok-perform g c =
@@ -32,18 +32,18 @@ returns-in-Ok-perform g c =
     let last = g.E.Sink.seen c.close.new.report in
     let read = c.in-Ok.settings in
     let result = c.into.result in
-    let line : closing_line read.command c.in-Ok-perform.end ≡ c.as_slice.result.now = sym (c.as_slice.ensures.bytes ∙ c.close_line.ensures) in
+    let line : closing_line read.command c.in-Ok-perform.end ≡ c.as_slice.result.now = sym (c.as_slice.ensures.bytes ∙ c.closing_line.ensures) in
     let performed = c.in-Ok-perform.ensures.performed in
     let closes = c.close.ensures.closes (closing_line read.command) source output line in
     let run : IsRun read old (streams source output last) result =
-    has_run read old source output mid last c.in-Ok-perform.end c.close.result performed closes (λ is. ap (λ r. g.E.Sink.seen r) (c.close.ensures.none is)) c.close.ensures.cause (not_listed read CdRead c.in-Ok.ensures.lawful refl) c.close.ensures.same result c.into.ensures in
+    has_run read old source output mid last c.in-Ok-perform.end c.close.result performed closes (λ is. ap (λ r. g.E.Sink.seen r) (c.close.ensures.none is)) c.close.ensures.cause (not_listed read CdRead c.in-Ok.ensures.valid refl) c.close.ensures.same result c.into.ensures in
     let failed = has_failed read old source output mid last c.in-Ok-perform.end c.close.result performed closes (λ is. ap (λ r. g.E.Sink.seen r) (c.close.ensures.none is)) c.close.ensures.cause c.close.ensures.same in
     record {
-      call = IsRunOf read c.in-Ok.ensures.read performed.lawful run;
+      call = IsRunOf read c.in-Ok.ensures.read performed.valid run;
       faults = subst (λ s. HaveFailed s old (streams source output last)) (sym c.into.ensures) failed;
       master = λ settings reads.
           subst (λ s. Masters s old (streams source output last) result) (same_settings _ _ _ c.in-Ok.ensures.read reads)
-          (run_masters read old (streams source output last) result (not_listed read Master c.in-Ok.ensures.lawful refl) run);
+          (run_masters read old (streams source output last) result (not_listed read Master c.in-Ok.ensures.valid refl) run);
       recover = λ settings reads.
           subst (λ s. Recovers s old (streams source output last) result) (same_settings _ _ _ c.in-Ok.ensures.read reads)
           (run_recovers read old (streams source output last) result run);

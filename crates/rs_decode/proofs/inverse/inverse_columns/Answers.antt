@@ -2,9 +2,9 @@
 use Rattle.std.proofs.Common.{◌≡◌, ◌≢◌, ◌<◌, ℕ, length, length-take-le, take, get_or, below_more, ap, sym, ◌∙◌, arith, ◌==◌, if◌then◌else◌}
 use Rattle.std.proofs.lemmas.List.Elements.{All-from_get_or}
 use Rattle.coding.specs.Words.{IsByte}
-use Rattle.rs_decode.specs.Inner.Inverse.{row_at}
+use Rattle.rs_decode.specs.Inner.Inverse.{row_sum}
 use Rattle.rs_decode.proofs.InverseSums.{HasSums-inverse}
-use Rattle.rs_decode.proofs.Inverses.{row_at-same}
+use Rattle.rs_decode.proofs.Inverses.{row_sum-same}
 use Rattle.rs_decode.proofs.inverse.inverse_columns.Goals as goal
 
 pub loop-i-preserved : goal.loop-i-preserved
@@ -16,12 +16,12 @@ loop-i-preserved c =
     let taken : length (take n c.basis.result) ≡ n = length-take-le n c.basis.result (omega arith) in
     record {
       rows = λ r j below within.
-          below_more (λ m. (l : ℕ) → l < n → row_at n new m (get_or points l 0) ≡ (if m == l then 1 else 0)) i
+          below_more (λ m. (l : ℕ) → l < n → row_sum n new m (get_or points l 0) ≡ (if m == l then 1 else 0)) i
           (λ m earlier l inside.
           let other : m ≢ i = omega arith in
-          row_at-same n m (get_or points l 0) new c.loop-i.columns (λ k. c.set_row.ensures.others k m other) ∙ c.loop-i.invariant.rows m l earlier inside)
+          row_sum-same n m (get_or points l 0) new c.loop-i.columns (λ k. c.set_row.ensures.others k m other) ∙ c.loop-i.invariant.rows m l earlier inside)
           (λ l inside.
-          ap (λ m. row_at m new i (get_or points l 0)) (sym taken) ∙ c.set_row.ensures.row (get_or points l 0) ∙ c.basis.ensures.values l inside)
+          ap (λ m. row_sum m new i (get_or points l 0)) (sym taken) ∙ c.set_row.ensures.row (get_or points l 0) ∙ c.basis.ensures.values l inside)
           r below j within;
     }
 

@@ -2,7 +2,7 @@
 use Rattle.std.proofs.Common.{◌≡◌, ◌≢◌, ◌<◌, ◌-◌, length, length-set, get_or, get_or-set_other, get_or-set_same, set, below_more, subst, sym, ◌∙◌, arith, inl, inr}
 use Rattle.std.proofs.lemmas.Bool.{cases_eq}
 use Rattle.coding.specs.Rows.{place}
-use Rattle.rs_decode.proofs.Inverses.{row_at-polynomial}
+use Rattle.rs_decode.proofs.Inverses.{row_sum-polynomial}
 use Rattle.rs_decode.proofs.inverse.set_row.Goals as goal
 
 pub loop-k-preserved : goal.loop-k-preserved
@@ -29,4 +29,4 @@ loop-k-preserved c =
 
 pub returns-clause-row : goal.returns-clause-row
 returns-clause-row c = λ x.
-    row_at-polynomial c.args.polynomial.now c.loop-k.columns c.args.i x (λ k below. c.loop-k.invariant.set k (omega arith))
+    row_sum-polynomial c.args.polynomial.now c.loop-k.columns c.args.i x (λ k below. c.loop-k.invariant.set k (omega arith))

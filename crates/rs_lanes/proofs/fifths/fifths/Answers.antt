@@ -22,38 +22,38 @@ returns c =
     (byte_lane 32 c.args.y3 c.fits-y3 j below) (byte_lane 32 c.args.y4 c.fits-y4 j below) in
     let turned = c.times-turned.ensures 0xD7 c.products.ensures in
     let shared = c.times.ensures 0xD7 c.products-2.ensures in
-    let ends = c.mixed-ends.ensures in
-    let middle = c.mixed-middle.ensures in
-    let both = c.mixed-both.ensures in
-    let crossed = c.mixed-crossed.ensures in
-    let first : HasLanes c.mixed-first.result (values 1) = record {
-      size = c.mixed-first.ensures.size;
+    let ends = c.xor-ends.ensures in
+    let middle = c.xor-middle.ensures in
+    let both = c.xor-both.ensures in
+    let crossed = c.xor-crossed.ensures in
+    let first : HasLanes c.xor-first.result (values 1) = record {
+      size = c.xor-first.ensures.size;
       each = λ j below.
-          rw (c.mixed-first.ensures.each j below, c.mixed-2.ensures.each j below, crossed.each j below, shared.each j below, c.mixed.ensures.each j below, c.weighed.ensures.each j below, ends.each j below, middle.each j below)
+          rw (c.xor-first.ensures.each j below, c.xor-2.ensures.each j below, crossed.each j below, shared.each j below, c.xor.ensures.each j below, c.weighed.ensures.each j below, ends.each j below, middle.each j below)
           (sums j below).one;
     } in
-    let second : HasLanes c.mixed-second.result (values 2) = record {
-      size = c.mixed-second.ensures.size;
+    let second : HasLanes c.xor-second.result (values 2) = record {
+      size = c.xor-second.ensures.size;
       each = λ j below.
-          rw (c.mixed-second.ensures.each j below, c.mixed-3.ensures.each j below, crossed.each j below, shared.each j below, c.mixed.ensures.each j below, c.weighed-2.ensures.each j below, ends.each j below, middle.each j below)
+          rw (c.xor-second.ensures.each j below, c.xor-3.ensures.each j below, crossed.each j below, shared.each j below, c.xor.ensures.each j below, c.weighed-2.ensures.each j below, ends.each j below, middle.each j below)
           (sums j below).two;
     } in
-    each_of_five (λ m. HasLanes (line (c.mixed-4.result ∷ c.mixed-first.result ∷ c.mixed-second.result ∷ c.mixed-6.result ∷ c.mixed-8.result ∷ []) m) (values m))
+    each_of_five (λ m. HasLanes (line (c.xor-4.result ∷ c.xor-first.result ∷ c.xor-second.result ∷ c.xor-6.result ∷ c.xor-8.result ∷ []) m) (values m))
     (record {
-      size = c.mixed-4.ensures.size;
-      each = λ j below. rw (c.mixed-4.ensures.each j below, both.each j below, ends.each j below, middle.each j below) (sums j below).zero;
+      size = c.xor-4.ensures.size;
+      each = λ j below. rw (c.xor-4.ensures.each j below, both.each j below, ends.each j below, middle.each j below) (sums j below).zero;
     })
     first
     second
     (record {
-      size = c.mixed-6.ensures.size;
+      size = c.xor-6.ensures.size;
       each = λ j below.
-          rw (c.mixed-6.ensures.each j below, c.mixed-5.ensures.each j below, turned.each j below, both.each j below, second.each j below, ends.each j below, middle.each j below)
+          rw (c.xor-6.ensures.each j below, c.xor-5.ensures.each j below, turned.each j below, both.each j below, second.each j below, ends.each j below, middle.each j below)
           (sums j below).three;
     })
     (record {
-      size = c.mixed-8.ensures.size;
+      size = c.xor-8.ensures.size;
       each = λ j below.
-          rw (c.mixed-8.ensures.each j below, c.mixed-7.ensures.each j below, turned.each j below, both.each j below, first.each j below, ends.each j below, middle.each j below)
+          rw (c.xor-8.ensures.each j below, c.xor-7.ensures.each j below, turned.each j below, both.each j below, first.each j below, ends.each j below, middle.each j below)
           (sums j below).four;
     })

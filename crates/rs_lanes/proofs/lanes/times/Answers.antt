@@ -6,10 +6,10 @@ use Rattle.rs_lanes.proofs.lanes.times.Goals as goal
 
 pub returns : goal.returns
 returns c = λ factor is. record {
-  size = c.mixed.ensures.size;
+  size = c.xor.ensures.size;
   each = λ k below.
       let fits = byte_lane 32 c.args.lanes c.fits-lanes k below in
-      c.mixed.ensures.each k below
+      c.xor.ensures.each k below
       ∙ rw (c.by_low_nibble.ensures.each k below, c.by_high_nibble.ensures.each k below)
       (product-nibbles factor c.args.table.now (get_or c.args.lanes k 0) (omega arith) is);
 }

@@ -7,7 +7,7 @@ use Rattle.rs_code.proofs.Values.{value-byte}
 use Rattle.coding.specs.Rows.{line, place, column}
 use Rattle.rs_lanes.specs.Inner.Parity.{filled}
 use Rattle.rs_lanes.specs.Inner.Thirds.{third}
-use Rattle.rs_lanes.proofs.ColumnLemmas.{length-column, turned_row}
+use Rattle.rs_lanes.proofs.ColumnLemmas.{length-column, transposed_row}
 use Rattle.rs_lanes.proofs.MatrixLemmas.{PI-basis}
 use Rattle.rs_lanes.proofs.ParityLemmas.{encoded_by_values}
 use Rattle.rs_lanes.proofs.rows.inner_parity.Goals as goal
@@ -23,11 +23,11 @@ pub returns-clause-encoded : goal.returns-clause-encoded
 returns-clause-encoded c = λ n below.
     let whole = map-id c.args.rows.now in
     let row = line c.args.rows.now (c.args.top + n) in
-    let size = subst (λ xs. length (line xs (c.args.top + n)) ≡ 182) whole (c.turn.ensures.sizes n below) in
-    let turned = c.turn.new.turned in
+    let size = subst (λ xs. length (line xs (c.args.top + n)) ≡ 182) whole (c.transpose.ensures.sizes n below) in
+    let transposed = c.transpose.new.transposed in
     let parity = column c.parity_of-parity.result n in
-    let same : column turned n ≡ row =
-    turned_row turned n row (omega arith) size (λ k inside. c.turn.ensures.turned k n inside below ∙ ap (λ xs. place xs (c.args.top + n) k) whole) in
+    let same : column transposed n ≡ row =
+    transposed_row transposed n row (omega arith) size (λ k inside. c.transpose.ensures.transposed k n inside below ∙ ap (λ xs. place xs (c.args.top + n) k) whole) in
     let encoded = encoded_by_values 182 10 (take 172 row) parity (length-take-le 172 row (omega arith)) (omega arith)
     (omega (arith, length-column c.parity_of-parity.result n))
     (subst (λ xs. All IsByte (take 172 xs)) same (c.put_thirds.ensures.bytes n below))

@@ -9,7 +9,7 @@ use Rattle.rs_lanes.proofs.rows.padded.Goals.{then-at-lt73, else-at-lt73}
 
 pub returns : goal.returns
 returns c = λ n below.
-    let word = take c.args.count (column c.args.turned.now n) in
+    let word = take c.args.count (column c.args.transposed.now n) in
     elim c.if-at-lt73.branch [
       | then-at-lt73 w ↦ zeros_in_front 73 (filled 182 word) _ c.args.at n w.result-is (omega arith) below
       | else-at-lt73 w ↦

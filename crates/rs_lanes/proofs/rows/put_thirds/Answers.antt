@@ -8,34 +8,34 @@ use Rattle.rs_lanes.proofs.ThirdLemmas.{HasThirds, thirds_more, thirds_bytes, th
 use Rattle.rs_lanes.proofs.rows.put_thirds.Goals as goal
 
 -- the first places of a lane
-short : (turned : List (List ℕ)) (count n : ℕ) → length turned ≡ 182 → count ≤ 182 → length (take count (column turned n)) ≤ 182
-short turned count n many few = omega (arith, length-take-le count (column turned n) (omega (arith, length-column turned n)))
+short : (transposed : List (List ℕ)) (count n : ℕ) → length transposed ≡ 182 → count ≤ 182 → length (take count (column transposed n)) ≤ 182
+short transposed count n many few = omega (arith, length-take-le count (column transposed n) (omega (arith, length-column transposed n)))
 
 -- with zeros put after and in front of them, they are 255 places
-whole : (turned : List (List ℕ)) (count n : ℕ) → length turned ≡ 182 → count ≤ 182 → 73 + length (filled 182 (take count (column turned n))) ≡ 255
-whole turned count n many few = omega (arith, length-filled 182 (take count (column turned n)) (short turned count n many few))
+whole : (transposed : List (List ℕ)) (count n : ℕ) → length transposed ≡ 182 → count ≤ 182 → 73 + length (filled 182 (take count (column transposed n))) ≡ 255
+whole transposed count n many few = omega (arith, length-filled 182 (take count (column transposed n)) (short transposed count n many few))
 
 pub loop-place-preserved : goal.loop-place-preserved
 loop-place-preserved c =
-    let turned = c.args.turned.now in
+    let transposed = c.args.transposed.now in
     let count = c.args.count in
-    thirds_more 73 (λ n. filled 182 (take count (column turned n))) c.loop-place.place c.loop-place.thirds c.padded.result c.padded-in-loop-place.result c.padded-in-loop-place-2.result c.thirds_of.result
-    (omega arith) (λ n. whole turned count n (omega arith) c.requires) c.loop-place.invariant
+    thirds_more 73 (λ n. filled 182 (take count (column transposed n))) c.loop-place.place c.loop-place.thirds c.padded.result c.padded-in-loop-place.result c.padded-in-loop-place-2.result c.thirds_of.result
+    (omega arith) (λ n. whole transposed count n (omega arith) c.requires) c.loop-place.invariant
     c.padded.ensures c.padded-in-loop-place.ensures c.padded-in-loop-place-2.ensures c.thirds_of.ensures.bytes c.thirds_of.ensures.thirds
 
 pub returns-clause-bytes : goal.returns-clause-bytes
 returns-clause-bytes c = λ n below.
-    let turned = c.args.turned.now in
+    let transposed = c.args.transposed.now in
     let count = c.args.count in
     let done : c.loop-place.place ≡ 85 = omega arith in
-    filled-bytes 182 (take count (column turned n)) (short turned count n (omega arith) c.requires)
-    (thirds_bytes 73 (λ m. filled 182 (take count (column turned m))) c.loop-place.thirds n (whole turned count n (omega arith) c.requires)
-    (subst (λ place. HasThirds 73 (λ m. filled 182 (take count (column turned m))) place c.loop-place.thirds) done c.loop-place.invariant) below)
+    filled-bytes 182 (take count (column transposed n)) (short transposed count n (omega arith) c.requires)
+    (thirds_bytes 73 (λ m. filled 182 (take count (column transposed m))) c.loop-place.thirds n (whole transposed count n (omega arith) c.requires)
+    (subst (λ place. HasThirds 73 (λ m. filled 182 (take count (column transposed m))) place c.loop-place.thirds) done c.loop-place.invariant) below)
 
 pub returns-clause-thirds : goal.returns-clause-thirds
 returns-clause-thirds c = λ i n third below.
-    let turned = c.args.turned.now in
+    let transposed = c.args.transposed.now in
     let count = c.args.count in
     let done : c.loop-place.place ≡ 85 = omega arith in
-    thirds_told 73 (λ m. filled 182 (take count (column turned m))) c.loop-place.thirds i n (whole turned count n (omega arith) c.requires)
-    (subst (λ place. HasThirds 73 (λ m. filled 182 (take count (column turned m))) place c.loop-place.thirds) done c.loop-place.invariant) third below
+    thirds_told 73 (λ m. filled 182 (take count (column transposed m))) c.loop-place.thirds i n (whole transposed count n (omega arith) c.requires)
+    (subst (λ place. HasThirds 73 (λ m. filled 182 (take count (column transposed m))) place c.loop-place.thirds) done c.loop-place.invariant) third below

@@ -7,4 +7,4 @@ use Rattle.rs_lanes.proofs.rows.put_thirds.Given as goal
 
 -- the places before this one are added up
 abbrev pub invariant-loop-place : goal.invariant-loop-place
-invariant-loop-place l = HasThirds 73 (λ n. filled 182 (take l.count (column l.turned n))) l.place l.thirds
+invariant-loop-place l = HasThirds 73 (λ n. filled 182 (take l.count (column l.transposed n))) l.place l.thirds

@@ -4,30 +4,30 @@ use Rattle.std.proofs.lemmas.List.{map-id}
 use Rattle.coding.specs.Field.{alpha, power}
 use Rattle.coding.specs.Words.{IsByte, value}
 use Rattle.coding.specs.Rows.{line, place, column}
-use Rattle.rs_lanes.proofs.ColumnLemmas.{turned_row}
+use Rattle.rs_lanes.proofs.ColumnLemmas.{transposed_row}
 use Rattle.rs_lanes.proofs.rows.row_values.Goals as goal
 
 -- a lane of the turned rows is its row
-same : (rows turned : List (List ℕ)) (top n : ℕ) → length turned ≡ 182
+same : (rows transposed : List (List ℕ)) (top n : ℕ) → length transposed ≡ 182
     → length (line (map (λ row. row) rows) (top + n)) ≡ 182
-    → ((k : ℕ) → k < 182 → place turned k n ≡ place (map (λ row. row) rows) (top + n) k)
-    → column turned n ≡ line rows (top + n)
-same rows turned top n many size is =
+    → ((k : ℕ) → k < 182 → place transposed k n ≡ place (map (λ row. row) rows) (top + n) k)
+    → column transposed n ≡ line rows (top + n)
+same rows transposed top n many size is =
     let whole = map-id rows in
-    turned_row turned n (line rows (top + n)) many (subst (λ xs. length (line xs (top + n)) ≡ 182) whole size)
+    transposed_row transposed n (line rows (top + n)) many (subst (λ xs. length (line xs (top + n)) ≡ 182) whole size)
     (λ k inside. is k inside ∙ ap (λ xs. place xs (top + n) k) whole)
 
 pub returns-clause-sizes : goal.returns-clause-sizes
-returns-clause-sizes c = λ n below. subst (λ xs. length (line xs (c.args.top + n)) ≡ 182) (map-id c.args.rows.now) (c.turn.ensures.sizes n below)
+returns-clause-sizes c = λ n below. subst (λ xs. length (line xs (c.args.top + n)) ≡ 182) (map-id c.args.rows.now) (c.transpose.ensures.sizes n below)
 
 pub returns-clause-bytes : goal.returns-clause-bytes
 returns-clause-bytes c = λ n below.
     subst (All IsByte)
-    (same c.args.rows.now c.turn.new.turned c.args.top n (omega arith) (c.turn.ensures.sizes n below) (λ k inside. c.turn.ensures.turned k n inside below))
-    (c.turned_values.ensures.bytes n below)
+    (same c.args.rows.now c.transpose.new.transposed c.args.top n (omega arith) (c.transpose.ensures.sizes n below) (λ k inside. c.transpose.ensures.transposed k n inside below))
+    (c.transposed_values.ensures.bytes n below)
 
 pub returns-clause-values : goal.returns-clause-values
 returns-clause-values c = λ k n few below.
-    c.turned_values.ensures.values k n few below
+    c.transposed_values.ensures.values k n few below
     ∙ ap (λ word. value word (power alpha k))
-    (same c.args.rows.now c.turn.new.turned c.args.top n (omega arith) (c.turn.ensures.sizes n below) (λ p inside. c.turn.ensures.turned p n inside below))
+    (same c.args.rows.now c.transpose.new.transposed c.args.top n (omega arith) (c.transpose.ensures.sizes n below) (λ p inside. c.transpose.ensures.transposed p n inside below))

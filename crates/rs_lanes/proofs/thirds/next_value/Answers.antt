@@ -16,9 +16,9 @@ returns-clause-step c = λ wanted.
       | then-k-count w ↦
           subst (λ row. HasLanes row (λ j. plus (product x (get_or c.args.value j 0)) (get_or c.args.next j 0))) (sym w.result-is)
           (record {
-            size = w.mixed.ensures.size;
+            size = w.xor.ensures.size;
             each = λ j below.
-                w.mixed.ensures.each j below
+                w.xor.ensures.each j below
                 ∙ ap (λ p. plus p (get_or c.args.next j 0))
                 ((w.times.ensures x (subst (λ f. IsTable f w.products.result) (w.powers_of.ensures k c.requires ∙ ap (power alpha) one) w.products.ensures)).each j below ∙ product-comm (get_or c.args.value j 0) x);
           })

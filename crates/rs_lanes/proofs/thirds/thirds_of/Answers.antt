@@ -14,22 +14,22 @@ returns-clause-thirds c =
     let d : ℕ → ℕ = λ j. get_or c.args.c j 0 in
     let byte_a : (j : ℕ) → j < 32 → a j < 256 = byte_lane 32 c.args.a c.fits-a in
     let byte_b : (j : ℕ) → j < 32 → b j < 256 = byte_lane 32 c.args.b c.fits-b in
-    let sum = c.mixed-sum.ensures in
+    let sum = c.xor-sum.ensures in
     let shared = c.times-shared.ensures 0xD6 c.products.ensures in
-    each_of_three (λ i. HasLanes (line (c.mixed.result ∷ c.mixed-3.result ∷ c.mixed-5.result ∷ []) i) (λ j. third_byte i (a j) (b j) (d j)))
+    each_of_three (λ i. HasLanes (line (c.xor.result ∷ c.xor-3.result ∷ c.xor-5.result ∷ []) i) (λ j. third_byte i (a j) (b j) (d j)))
     (record {
-      size = c.mixed.ensures.size;
-      each = λ j below. rw (c.mixed.ensures.each j below, sum.each j below) (third-zero (a j) (b j) (d j) (byte_a j below) (byte_b j below));
+      size = c.xor.ensures.size;
+      each = λ j below. rw (c.xor.ensures.each j below, sum.each j below) (third-zero (a j) (b j) (d j) (byte_a j below) (byte_b j below));
     })
     (record {
-      size = c.mixed-3.ensures.size;
+      size = c.xor-3.ensures.size;
       each = λ j below.
-          rw (c.mixed-3.ensures.each j below, shared.each j below, sum.each j below, c.mixed-2.ensures.each j below)
+          rw (c.xor-3.ensures.each j below, shared.each j below, sum.each j below, c.xor-2.ensures.each j below)
           (third-one (a j) (b j) (d j) (byte_a j below) (byte_b j below));
     })
     (record {
-      size = c.mixed-5.ensures.size;
+      size = c.xor-5.ensures.size;
       each = λ j below.
-          rw (c.mixed-5.ensures.each j below, shared.each j below, sum.each j below, c.mixed-4.ensures.each j below)
+          rw (c.xor-5.ensures.each j below, shared.each j below, sum.each j below, c.xor-4.ensures.each j below)
           (third-two (a j) (b j) (d j) (byte_a j below) (byte_b j below));
     })

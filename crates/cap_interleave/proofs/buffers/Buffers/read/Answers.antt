@@ -1,7 +1,7 @@
 -- The proof of `read` in src/buffers.rt.
 use Rattle.std.proofs.Common.{◌≡◌, ◌∙◌, ◌+◌, ◌<◌, ◌≤◌, ◌++◌, ap, sym, subst, refl, arith, length, take, slice_index, slice_set, is_some, length-append}
 use Rattle.std.proofs.lemmas.List.{get_or_default, length-take-le, with_items_is}
-use Rattle.cap_interleave.specs.Blocks.{filled}
+use Rattle.cap_interleave.specs.Blocks.{block_written}
 use Rattle.cap_interleave.specs.Inner.{BuffersState}
 use Rattle.cap_interleave.proofs.BlockLemmas.{filled_room}
 use Rattle.cap_interleave.proofs.HeldLemmas.{gives_by, same_state}
@@ -18,8 +18,8 @@ returns-clause-read g c =
     let here : c.index.result.now ≡ slice_index c.args.self.now.held c.args.c =
     c.index.ensures ∙ get_or_default c.self.inside.held.items c.args.c c.index.result.now 0 (subst (λ l. c.args.c < length l) (sym held) c.requires.capture)
     ∙ ap (λ l. slice_index l c.args.c) held in
-    let unit : c.put_block.new.unit.items ≡ c.args.self.now.unit ++ filled c.args.self.now.fill own =
-    c.put_block.ensures.items ∙ ap (λ o. c.self.inside.unit.items ++ filled (is_some c.self.inside.lost) (take count o)) block ∙ ap (λ (b : BuffersState). b.unit ++ filled b.fill own) c.self.view_is in
+    let unit : c.put_block.new.unit.items ≡ c.args.self.now.unit ++ block_written c.args.self.now.fill own =
+    c.put_block.ensures.items ∙ ap (λ o. c.self.inside.unit.items ++ block_written (is_some c.self.inside.lost) (take count o)) block ∙ ap (λ (b : BuffersState). b.unit ++ block_written b.fill own) c.self.view_is in
     record {
       own = own;
       gives = gives_by _ _ _ _ _ _ _ _ size here refl c.in_ok-held.ensures.gives;
@@ -28,7 +28,7 @@ returns-clause-read g c =
       room = omega (
         arith,
         ap length unit,
-        length-append c.args.self.now.unit (filled c.args.self.now.fill own),
+        length-append c.args.self.now.unit (block_written c.args.self.now.fill own),
         filled_room c.args.self.now.fill own (omega (arith, few, c.in_ok-held.ensures.bound, c.deref_mut.ensures.len, c.self.invariant)),
       );
     }

@@ -1,14 +1,14 @@
 -- The proof of `Reader::end_line` in src/reader.rt.
 use Rattle.std.proofs.Common.{◌≡◌, ◌∙◌, ◌+◌, ◌≤◌, ◌++◌, ℕ, [], ◌∷◌, Ok, Err, Option, None, Some, ap, arith, subst, sym}
 use Rattle.cap_map.specs.Fields.{lines_of}
-use Rattle.cap_lost.specs.Inner.{StopsAs, ended, goes_on, sayings_of}
+use Rattle.cap_lost.specs.Inner.{StopsAs, closing_count, goes_on, sayings_of}
 use Rattle.cap_lost.specs.Report.{IsFaultOf, line_read, lines_read}
 use Rattle.cap_lost.specs.declared.fault.ReportFault.TheVariants.{Rule}
 use Rattle.cap_lost.proofs.Readings.{broken_last, broken_on, read_last, read_on}
 use Rattle.cap_lost.proofs.reader.Reader.end_line.Goals as goal
 
 -- a report ends once at most
-ended_most : (written : Option ℕ) → ended written ≤ 1
+ended_most : (written : Option ℕ) → closing_count written ≤ 1
 ended_most None = omega arith
 ended_most (Some written) = omega arith
 

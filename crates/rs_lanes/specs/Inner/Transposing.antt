@@ -9,5 +9,5 @@ pub record IsRiffled (before after : List (List ℕ)) : Type 0 where
       → place after k n ≡ place before (8 * (n % 2) + k / 2) (16 * (n / 16) + (8 * (k % 2) + n % 16 / 2))
 
 -- sixteen vectors, transposed in each half
-pub record IsTurned (before after : List (List ℕ)) : Type 0 where
+pub record IsTransposed (before after : List (List ℕ)) : Type 0 where
   pub each : (k n : ℕ) → k < 16 → n < 32 → place after k n ≡ place before (n % 16) (16 * (n / 16) + k)

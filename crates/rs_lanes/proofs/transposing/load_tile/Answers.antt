@@ -1,8 +1,8 @@
--- The proof of `load_tile` in src/turning.rt.
+-- The proof of `load_tile` in src/transposing.rt.
 use Rattle.std.proofs.Common.{◌≡◌, ◌+◌, map, subst, arith}
 use Rattle.rs_lanes.proofs.RowLemmas.{row_taken}
 use Rattle.rs_lanes.proofs.Tiles.{HasPairs, pairs_more, pairs_wide}
-use Rattle.rs_lanes.proofs.turning.load_tile.Goals as goal
+use Rattle.rs_lanes.proofs.transposing.load_tile.Goals as goal
 
 pub loop-k-preserved : goal.loop-k-preserved
 loop-k-preserved g c =

@@ -1,7 +1,7 @@
 -- What each turn of the loop in `load_tile` keeps.
 use Rattle.std.proofs.Common.{map}
 use Rattle.rs_lanes.proofs.Tiles.{HasPairs}
-use Rattle.rs_lanes.proofs.turning.load_tile.Given as goal
+use Rattle.rs_lanes.proofs.transposing.load_tile.Given as goal
 
 -- k vectors have their two rows
 abbrev pub invariant-loop-k : goal.invariant-loop-k

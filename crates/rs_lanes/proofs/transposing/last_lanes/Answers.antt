@@ -1,7 +1,7 @@
--- The proof of `last_lanes` in src/turning.rt.
+-- The proof of `last_lanes` in src/transposing.rt.
 use Rattle.std.proofs.Common.{◌+◌, ◌*◌, ◌/◌, ◌%◌, arith}
 use Rattle.rs_lanes.proofs.Tiles.{in_turns-even, in_turns-odd}
-use Rattle.rs_lanes.proofs.turning.last_lanes.Goals as goal
+use Rattle.rs_lanes.proofs.transposing.last_lanes.Goals as goal
 
 pub returns-clause-even : goal.returns-clause-even
 returns-clause-even c = λ n below even. in_turns-even (λ n. 16 * (n / 16) + (8 + n % 16 / 2)) c.args.a c.args.b n c.requires.a below (omega arith) even

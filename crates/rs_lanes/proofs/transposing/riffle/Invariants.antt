@@ -1,7 +1,7 @@
 -- What each turn of the loop in `riffle` keeps.
 use Rattle.std.proofs.Common.{◌≡◌, ℕ, ◌+◌, ◌*◌, ◌/◌, ◌%◌, ◌<◌, length}
 use Rattle.coding.specs.Rows.{line, place}
-use Rattle.rs_lanes.proofs.turning.riffle.Given as goal
+use Rattle.rs_lanes.proofs.transposing.riffle.Given as goal
 
 -- the first k pairs are set
 abbrev pub invariant-loop-k : goal.invariant-loop-k

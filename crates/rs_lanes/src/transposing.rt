@@ -2,50 +2,54 @@
 //! 32 rows is a step for one vector.
 ghost use Rattle.std.specs.Prelude.{◌≡◌, ℕ, ◌+◌, ◌*◌, ◌/◌, ◌%◌, ◌<◌, ◌≤◌, length, map, slice_index, EachIndex};
 ghost use Rattle.coding.specs.Rows.{line, place};
-ghost use Rattle.rs_lanes.specs.Inner.Turning.{IsRiffled, IsTurned};
+ghost use Rattle.rs_lanes.specs.Inner.Transposing.{IsRiffled, IsTransposed};
 
 use crate::row::Row;
 use std::simd::prelude::*;
 
 // Sets the vectors to the places of the 32 rows from `top` on. Also ensures that these rows have 182 places.
-pub(crate) fn turn<T: Row>(rows: &[T], top: usize, turned: &mut [u8x32; 182])
+pub(crate) fn transpose<T: Row>(rows: &[T], top: usize, transposed: &mut [u8x32; 182])
     requires { top + 32 ≤ length rows.now }
     ensures sizes { (n : ℕ) → n < 32 → length (line (map T.word rows.now) (top + n)) ≡ 182 }
-    ensures lanes { (k : ℕ) → k < 182 → length (line turned.new k) ≡ 32 }
-    ensures turned { (k n : ℕ) → k < 182 → n < 32 → place turned.new k n ≡ place (map T.word rows.now) (top + n) k }
+    ensures lanes { (k : ℕ) → k < 182 → length (line transposed.new k) ≡ 32 }
+    ensures transposed { (k n : ℕ) → k < 182 → n < 32 → place transposed.new k n ≡ place (map T.word rows.now) (top + n) k }
 {
     for tile in 0..11 {
-        put_tile(&load_turned(rows, top, 16 * tile), 16 * tile, turned);
+        put_tile(
+            &load_transposed(rows, top, 16 * tile),
+            16 * tile,
+            transposed,
+        );
     }
     // 182 is no multiple of sixteen: the last tile repeats ten places of the one before.
-    put_tile(&load_turned(rows, top, 166), 166, turned);
+    put_tile(&load_transposed(rows, top, 166), 166, transposed);
 }
 
 // Sets sixteen vectors. All others stay.
 #[inline(always)]
-fn put_tile(tile: &[u8x32; 16], at: usize, turned: &mut [u8x32; 182])
+fn put_tile(tile: &[u8x32; 16], at: usize, transposed: &mut [u8x32; 182])
     requires { at + 16 ≤ 182 }
-    ensures size { length turned.new ≡ 182 }
-    ensures set { (k : ℕ) → k < 16 → line turned.new (at + k) ≡ line tile.now k }
-    ensures below { (k : ℕ) → k < at → line turned.new k ≡ line turned.old k }
-    ensures above { (k : ℕ) → at + 16 ≤ k → line turned.new k ≡ line turned.old k }
+    ensures size { length transposed.new ≡ 182 }
+    ensures set { (k : ℕ) → k < 16 → line transposed.new (at + k) ≡ line tile.now k }
+    ensures below { (k : ℕ) → k < at → line transposed.new k ≡ line transposed.old k }
+    ensures above { (k : ℕ) → at + 16 ≤ k → line transposed.new k ≡ line transposed.old k }
 {
     for k in 0..16 {
-        turned[at + k] = tile[k];
+        transposed[at + k] = tile[k];
     }
 }
 
 /// Sixteen places, from `at` on, of the 32 rows from `top` on, transposed: vector `k` has place `at + k` of each row.
 /// Also ensures that these rows have 182 places.
 #[inline(always)]
-pub fn load_turned<T: Row>(rows: &[T], top: usize, at: usize) -> [u8x32; 16]
+pub fn load_transposed<T: Row>(rows: &[T], top: usize, at: usize) -> [u8x32; 16]
     requires top { top + 32 ≤ length rows.now }
     requires at { at + 16 ≤ 182 }
     ensures sizes { (n : ℕ) → n < 32 → length (line (map T.word rows.now) (top + n)) ≡ 182 }
     ensures lanes { EachIndex result (λ k. length (line result k) ≡ 32) }
-    ensures turned { (k n : ℕ) → k < 16 → n < 32 → place result k n ≡ place (map T.word rows.now) (top + n) (at + k) }
+    ensures transposed { (k n : ℕ) → k < 16 → n < 32 → place result k n ≡ place (map T.word rows.now) (top + n) (at + k) }
 {
-    turn_tile(&load_tile(rows, top, at))
+    transpose_tile(&load_tile(rows, top, at))
 }
 
 // Sixteen places of 32 rows: the upper sixteen rows in the lower halves of the vectors, and the others in the upper
@@ -100,10 +104,10 @@ fn load_pair(one: &[u8], other: &[u8], at: usize) -> u8x32
 // Transposes both halves of a tile. Within a half, the numbers of vector and lane are eight bits together, which each
 // step rotates by one. After four steps the two have changed places.
 #[inline(always)]
-fn turn_tile(tile: &[u8x32; 16]) -> [u8x32; 16]
+fn transpose_tile(tile: &[u8x32; 16]) -> [u8x32; 16]
     requires { EachIndex tile.now (λ k. length (line tile.now k) ≡ 32) }
     ensures lanes { EachIndex result (λ k. length (line result k) ≡ 32) }
-    ensures turned { IsTurned tile.now result }
+    ensures transposed { IsTransposed tile.now result }
 {
     riffle(&riffle(&riffle(&riffle(tile))))
 }

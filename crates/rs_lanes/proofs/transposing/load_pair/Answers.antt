@@ -1,10 +1,10 @@
--- The proof of `load_pair` in src/turning.rt.
+-- The proof of `load_pair` in src/transposing.rt.
 use Rattle.std.proofs.Common.{◌+◌, get_or, ◌++◌, ap, ◌∙◌, arith}
 use Rattle.std.specs.Simd.Lanes.{chunk}
 use Rattle.std.proofs.lemmas.List.FromFn.{get_or-map-range_with_len}
 use Rattle.std.proofs.lemmas.List.{get_or_append_left, get_or-append-add}
 use Rattle.std.proofs.lemmas.Simd.{length-chunk, get_or-chunk}
-use Rattle.rs_lanes.proofs.turning.load_pair.Goals as goal
+use Rattle.rs_lanes.proofs.transposing.load_pair.Goals as goal
 
 pub returns-clause-one : goal.returns-clause-one
 returns-clause-one c = λ n below.
