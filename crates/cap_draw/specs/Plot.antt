@@ -8,7 +8,7 @@ use Rattle.cap_draw.specs.declared.plot.Plot.{Plot}
 abbrev pub plot_width : ℕ → ℕ
 plot_width most = most * ((999 + most) / most)
 
--- PI error rows that are as high as one unit: the plot is 420 units high
+-- PI error rows that are as high as one unit: the axis is 420 units high
 abbrev pub scale_for : ℕ → ℕ
 scale_for peak = if nat_le peak 420 then 1 else (if nat_le peak 840 then 2 else 4)
 

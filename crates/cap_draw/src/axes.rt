@@ -1,5 +1,15 @@
 //! The axes of a picture, and what frames its parts. All is in units of the picture. The plot of sums begins at 64 from
 //! the left and 100 from the top, and ends at 540.
+//!
+//! A sum is the number of PI error rows in a block and the seven before it. `scale` says how many rows are as high as a
+//! unit. The axis of rows reaches 420 units; the 20 above it are for the marks of bars over the limit of ECMA-267, 280.
+//! A class is one of the style in `words`: `g` a grey line, `k` a black line, `d` a dashed line, `u` a bar, `o` a black
+//! shape, `f` a grey shape.
+//!
+//! The clauses `room` say what the parts before have at most, rounded up, and `len` what a part adds at most. `picture`
+//! makes the bound of the whole of these. A survey has at most 2,097,152 blocks, and a plot is at most 4,999 units
+//! wide. A function puts what one definition of `specs` says, so what may be missing has two: whether it is there, and
+//! what it is. `picture` calls those that are public.
 ghost use Rattle.std.specs.Prelude.{◌≡◌, ◌≤◌, ◌<◌, ◌+◌, ◌*◌, ◌++◌, length};
 ghost use Rattle.cap_draw.specs.Axes.{block_axis, block_tick, block_ticks, is_on_layer_1, layer_at, layer_mark, limit_line, lower_frame, marks_frame, band_line, plot_frame, block_x, row_line, row_lines, tick_at};
 ghost use Rattle.cap_survey.specs.Totals.{before_first};
@@ -8,7 +18,7 @@ use crate::page::Page;
 use crate::plot::{Plot, share};
 use cap_survey::Cell;
 
-/// Puts the seven lines of the axis of rows, with their numbers.
+/// Puts the seven lines of the axis of rows, with their numbers. They come before the plot, so that bars lie over them.
 pub fn put_row_lines(page: &mut Page, plot: &Plot)
     requires room { length page.old ≤ 2000 }
     requires width { plot.now.width ≤ 4999 }
@@ -21,7 +31,8 @@ pub fn put_row_lines(page: &mut Page, plot: &Plot)
     }
 }
 
-// A line of the axis of rows, 70 units above the one before it: seven of them reach 420.
+// A line of the axis of rows, 70 units above the one before it: seven of them reach 420. It begins 4 units left of the
+// plot, as a tick. Its number is 5 units lower, since a text is placed by the foot of its letters.
 fn put_row_line(page: &mut Page, plot: &Plot, i: u16)
     requires room { length page.old ≤ 5000 }
     requires width { plot.now.width ≤ 4999 }
@@ -38,7 +49,8 @@ fn put_row_line(page: &mut Page, plot: &Plot, i: u16)
 }
 
 /// Puts what opens the plot of sums. It counts PI error rows from its lower edge up. So a bar is drawn by its own
-/// number, whatever the scale is.
+/// number, whatever the scale is. The matrix makes heights grow upwards, and `none` lets them be scaled without the
+/// width.
 pub fn put_plot_frame(page: &mut Page, plot: &Plot)
     requires room { length page.old ≤ 5000 }
     requires scale { plot.now.scale ≤ 4 }
@@ -56,7 +68,7 @@ pub fn put_plot_frame(page: &mut Page, plot: &Plot)
 }
 
 /// Puts the line at 280, and closes the plot of sums. Within the plot heights are rows, so a stroke of 2 × `scale` is 2
-/// units of the picture.
+/// units of the picture. After the plot come the lines at its lower edge and on its left.
 pub fn put_limit(page: &mut Page, plot: &Plot)
     requires room { length page.old ≤ 802500 }
     requires scale { plot.now.scale ≤ 4 }
@@ -69,7 +81,8 @@ pub fn put_limit(page: &mut Page, plot: &Plot)
     page.put(b"M64 100v440'/>\n");
 }
 
-/// Puts the axis of blocks, and where layer 1 begins.
+/// Puts the axis of blocks, and where layer 1 begins. Without a block there are no ticks: their places are parts of the
+/// number of blocks.
 pub fn put_block_axis(page: &mut Page, cells: &[Cell], plot: &Plot)
     requires room { length page.old ≤ 802700 }
     requires few { length cells.now ≤ 2097152 }
@@ -85,7 +98,8 @@ pub fn put_block_axis(page: &mut Page, cells: &[Cell], plot: &Plot)
     page.put(b"' y='580' text-anchor='middle'>block</text>\n");
 }
 
-// Where a block begins in the picture.
+// Where a block begins in the picture, 64 being the left edge of the plot. The number of all blocks gives its right
+// edge.
 fn block_x(block: u32, blocks: u32, width: u16) -> u16
     requires some { 0 < blocks }
     requires within { block ≤ blocks }
@@ -97,7 +111,7 @@ fn block_x(block: u32, blocks: u32, width: u16) -> u16
     64 + share(block, u32::from(width), blocks) as u16
 }
 
-// The mark where layer 1 begins, if it does.
+// The mark where layer 1 begins, if a block is on it. A disk with one layer has none.
 fn put_layer(page: &mut Page, cells: &[Cell], width: u16)
     requires room { length page.old ≤ 802700 }
     requires few { length cells.now ≤ 2097152 }
@@ -112,6 +126,7 @@ fn put_layer(page: &mut Page, cells: &[Cell], width: u16)
     }
 }
 
+// The mark of layer 1: a dashed line over the height of the plot, and a text on its right, below the marks of bars.
 fn put_layer_at(page: &mut Page, x: u16)
     requires room { length page.old ≤ 802700 }
     requires x { x ≤ 5063 }
@@ -123,7 +138,8 @@ fn put_layer_at(page: &mut Page, x: u16)
     page.put(b"' y='132'>layer 1</text>\n");
 }
 
-// The first block on layer 1; the number of all where none is.
+// The first block on layer 1; the number of all where none is. So one comparison says whether there is one. A survey
+// isn't tested for blocks of layer 0 after it.
 fn first_on_layer_1(cells: &[Cell]) -> u32
     requires { length cells.now ≤ 2097152 }
     ensures first { result ≡ before_first is_on_layer_1 cells.now }
@@ -139,7 +155,8 @@ fn first_on_layer_1(cells: &[Cell]) -> u32
     place
 }
 
-// The ticks of the axis: at most six. At the ends of five parts, or at each block where there are fewer.
+// The ticks of the axis: at most six. At the ends of five parts, or at each block where there are fewer. The last is at
+// the right edge, where the blocks end, and has their number.
 fn put_block_ticks(page: &mut Page, blocks: u32, width: u16)
     requires room { length page.old ≤ 802900 }
     requires some { 0 < blocks }
@@ -154,6 +171,7 @@ fn put_block_ticks(page: &mut Page, blocks: u32, width: u16)
     }
 }
 
+// The tick where a block begins. 818,000 is more than all ticks come to: any bound with room for a tick would do.
 fn put_block_tick(page: &mut Page, block: u32, blocks: u32, width: u16)
     requires room { length page.old ≤ 818000 }
     requires some { 0 < blocks }
@@ -166,6 +184,7 @@ fn put_block_tick(page: &mut Page, block: u32, blocks: u32, width: u16)
     put_tick_at(page, block_x(block, blocks, width), block);
 }
 
+// A tick of 6 units below the plot, and the number of its block.
 fn put_tick_at(page: &mut Page, x: u16, block: u32)
     requires { length page.old ≤ 818000 }
     ensures bytes { page.new ≡ page.old ++ tick_at x block }
@@ -177,7 +196,8 @@ fn put_tick_at(page: &mut Page, x: u16, block: u32)
     page.put(b"</text>\n");
 }
 
-/// Puts what opens the band of failed rows. It has 208 rows, a quarter of a unit each, with room for the marks below.
+/// Puts what opens the band of failed rows. It has 208 rows, a quarter of a unit each, with room for the marks below:
+/// 16 rows, so that 224 rows are 56 units. Its heights grow upwards, as those of the plot.
 pub fn put_lower_frame(page: &mut Page, plot: &Plot)
     requires room { length page.old ≤ 804000 }
     ensures bytes { page.new ≡ page.old ++ lower_frame plot.now }
@@ -190,7 +210,8 @@ pub fn put_lower_frame(page: &mut Page, plot: &Plot)
     );
 }
 
-/// Closes the band of failed rows, and puts what opens that of refused blocks.
+/// Closes the band of failed rows, and puts what opens that of refused blocks. Between them are the lines of the first,
+/// at 0 rows and on its left, and its two numbers.
 pub fn put_marks_frame(page: &mut Page, plot: &Plot)
     requires room { length page.old ≤ 1485000 }
     ensures bytes { page.new ≡ page.old ++ marks_frame plot.now }
@@ -203,7 +224,7 @@ pub fn put_marks_frame(page: &mut Page, plot: &Plot)
     );
 }
 
-/// Closes the band of refused blocks.
+/// Closes the band of refused blocks. Its line is below the marks, which are 14 units high from 656 on.
 pub fn put_marks_line(page: &mut Page, plot: &Plot)
     requires room { length page.old ≤ 1930000 }
     ensures bytes { page.new ≡ page.old ++ band_line plot.now }

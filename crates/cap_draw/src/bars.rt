@@ -1,5 +1,12 @@
-//! The columns of a picture, as rectangles and marks. The clauses say how many bytes each has at most, of which the
-//! bound of the whole picture is made.
+//! The columns of a picture, as rectangles and marks. The clauses say how many bytes each has at most, of which
+//! `picture` makes the bound of the whole; `room` is what the parts before have at most, rounded up.
+//!
+//! A column is some blocks one after the other. `sum8` is the number of PI error rows in a block and the seven before
+//! it, at most 1,664; ECMA-267 allows 280. `scale` says how many rows are as high as a unit of the picture. A shape has
+//! the colour of its group, which `axes` opens, and class `o` makes it black. In the plot and in the band of failed
+//! rows heights are rows, counted from the lower edge up; in the band of refused blocks they are units downwards. A
+//! function puts what one definition of `specs` says, so what may be missing has two: whether it is there, and what it
+//! is.
 ghost use Rattle.std.specs.Prelude.{◌≡◌, ◌≤◌, ◌+◌, ◌*◌, ◌++◌, length};
 ghost use Rattle.cap_draw.specs.Bars.{bar, bars, failed_bar, failed_bars, failed_rows_bar, mark_path, middle_of, over_class, over_mark, refused_mark, refused_marks, title, triangle};
 ghost use Rattle.cap_draw.specs.Columns.{column_of};
@@ -9,7 +16,7 @@ use crate::page::Page;
 use crate::plot::Plot;
 use cap_survey::Cell;
 
-/// Puts the bar of each column, as high as its greatest `sum8`.
+/// Puts the bar of each column, as high as its greatest `sum8`. A bar and its mark have at most 200 bytes.
 pub fn put_bars(page: &mut Page, cells: &[Cell], plot: &Plot)
     requires room { length page.old ≤ 10000 }
     requires few { length cells.now ≤ 2097152 }
@@ -54,7 +61,8 @@ fn put_class(page: &mut Page, sum8: u16)
     }
 }
 
-// Which blocks a column has. A browser shows it where the mouse is.
+// Which blocks a column has. A browser shows it where the mouse is. The text begins with what ends the last attribute
+// of the shape.
 fn put_title(page: &mut Page, column: &Column)
     requires room { length page.old + 44 ≤ 2000000 }
     ensures bytes { page.new ≡ page.old ++ title column.now }
@@ -77,7 +85,8 @@ fn put_mark(page: &mut Page, column: &Column, scale: u16)
     }
 }
 
-// Heights in the plot are rows: it is 440 × `scale` high, and the mark 14 × `scale`.
+// Heights in the plot are rows: it is 440 × `scale` high, and the mark 14 × `scale`. So it is 14 units high by any
+// scale, and above the highest line of the axis, which is at 420.
 fn put_mark_at(page: &mut Page, column: &Column, scale: u16)
     requires room { length page.old + 60 ≤ 2000000 }
     requires scale { scale ≤ 4 }
@@ -92,7 +101,8 @@ fn put_mark_at(page: &mut Page, column: &Column, scale: u16)
     page.put(b"z'/>\n");
 }
 
-/// Puts the bar and the mark of each column that has a failed row.
+/// Puts the bar and the mark of each column that has a failed row. The bar is as high as the most failed rows of a
+/// block.
 pub fn put_failed_bars(page: &mut Page, cells: &[Cell], plot: &Plot)
     requires room { length page.old ≤ 805000 }
     requires few { length cells.now ≤ 2097152 }
@@ -107,6 +117,7 @@ pub fn put_failed_bars(page: &mut Page, cells: &[Cell], plot: &Plot)
     }
 }
 
+// What is drawn of a column in the band of failed rows: nothing, where no block has one.
 fn put_failed_bar(page: &mut Page, column: &Column)
     requires room { length page.old + 170 ≤ 2000000 }
     ensures bytes { page.new ≡ page.old ++ failed_bar column.now }
@@ -117,7 +128,8 @@ fn put_failed_bar(page: &mut Page, column: &Column)
     }
 }
 
-// The mark is below the bar, since the bar of one row is hardly seen.
+// The mark is below the bar, since the bar of one row is hardly seen. It is 16 rows high, for which the band has room
+// below 0.
 fn put_failed_rows(page: &mut Page, column: &Column)
     requires room { length page.old + 170 ≤ 2000000 }
     ensures bytes { page.new ≡ page.old ++ failed_rows_bar column.now }
@@ -150,6 +162,7 @@ pub fn put_refused_marks(page: &mut Page, cells: &[Cell], plot: &Plot)
     }
 }
 
+// What is drawn of a column in the band of refused blocks: nothing, where none is refused.
 fn put_refused_mark(page: &mut Page, column: &Column)
     requires room { length page.old + 110 ≤ 2000000 }
     ensures bytes { page.new ≡ page.old ++ refused_mark column.now }
@@ -160,6 +173,7 @@ fn put_refused_mark(page: &mut Page, column: &Column)
     }
 }
 
+// A triangle with its upper corner in the middle of the column, 10 units wide and 14 high.
 fn put_triangle(page: &mut Page, column: &Column)
     requires room { length page.old + 110 ≤ 2000000 }
     ensures bytes { page.new ≡ page.old ++ triangle column.now }
@@ -172,7 +186,7 @@ fn put_triangle(page: &mut Page, column: &Column)
     page.put(b"</title></path>\n");
 }
 
-// The middle of a column.
+// The middle of a column. It has 32 bits, since no clause here bounds its place and its width.
 fn middle_of(column: &Column) -> u32
     ensures { result ≡ middle_of column.now }
 {

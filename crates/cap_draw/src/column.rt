@@ -1,4 +1,5 @@
-//! The blocks that share a column of a picture. A disk has more blocks than a picture has columns.
+//! The blocks that share a column of a picture. A disk has more blocks than a picture has columns. Where a survey has
+//! fewer, there are as many columns as blocks, so that none is without a block. `bars` draws them.
 ghost use Rattle.std.specs.Prelude.{◌≡◌, ◌<◌, ◌≤◌, ◌+◌, length};
 ghost use Rattle.cap_draw.specs.Columns.{column_of};
 ghost use Rattle.cap_draw.specs.Plot.{share};
@@ -16,14 +17,17 @@ pub struct Column {
     /// Where it begins in the plot, and how wide it is.
     pub x: u16,
     pub width: u16,
-    /// The greatest `sum8` and the greatest number of failed rows of its blocks.
+    /// The greatest `sum8` and the greatest number of failed rows of its blocks, as `Page` puts numbers: of 16 bits.
     pub sum8: u16,
     pub failed: u16,
     /// How many of its blocks are refused.
     pub refused: u32,
 }
 
-/// Column `c` of the plot of these blocks.
+/// Column `c` of the plot of these blocks. Blocks and width are shared among the columns by the same rule, so that a
+/// block is drawn about where the axis has its number. It is made anew for each of the three parts that draw it, so
+/// that no list of columns is kept. No cast cuts: places are at most 4,999, and counts at most 2^21. By `fewer` each
+/// column has a block at least.
 pub fn column_of(cells: &[Cell], plot: &Plot, c: u16) -> Column
     requires few { length cells.now ≤ 2097152 }
     requires width { plot.now.width ≤ 4999 }

@@ -15,12 +15,12 @@ use std::alloc::Global;
 pub enum DrawEnd {
     /// The survey and its picture are whole.
     Done,
-    /// The survey ended within this line, counted from 1, after this number of its bytes. The picture is written, and
-    /// says so.
+    /// The survey ended before its line of totals: within this line, counted from 1, after this number of its bytes,
+    /// which may be 0. The picture is written, and says so.
     Short { line: u64, bytes: u64 },
     /// A read of the survey failed. Nothing was written.
     ReadFault,
-    /// A write failed.
+    /// A write failed. A prefix of the picture was written.
     WriteFault,
     /// A line of the survey breaks a rule. Nothing was written.
     Rule(Fault),
@@ -29,7 +29,9 @@ pub enum DrawEnd {
 }
 
 /// Reads a survey to its end, and writes its picture in at most `most` columns, in one write. All memory, some 15 MB,
-/// is allocated before the first byte is read.
+/// is allocated before the first byte is read: that for the most blocks that a survey has, and for the greatest
+/// picture. `most` is from 100 on where arguments choose it; any number above 0 would do here. The equations in the
+/// clause are handed to the definition, which states them where a stream isn't touched.
 pub fn draw<S: Source, K: Sink>(alloc: Global, most: u16, src: &mut S, out: &mut K) -> DrawEnd
     requires some { 0 < most }
     requires most { most ≤ 4000 }
@@ -44,13 +46,15 @@ pub fn draw<S: Source, K: Sink>(alloc: Global, most: u16, src: &mut S, out: &mut
     }
 }
 
-// Reads a survey to its end: how many bytes of a last line that is cut there are.
+// Reads a survey to its end: how many bytes of a last line that is cut there are. `Err` is the end of the drawing: a
+// failed read, or the first line that breaks a rule, after which no more is read.
 fn read_survey<S: Source>(reading: &mut Reading, src: &mut S) -> Result<usize, DrawEnd>
     requires { reading.old ≡ record { read = nothing_read; line = [] } }
     ensures read { IfOk result (λ left. HasRead (S.seen src.old) (S.seen src.new) (record { read = reading.new.read; left = left })) }
     ensures stop { IfErr result (IsSurveyStop (S.seen src.old) (S.seen src.new)) }
 {
-    // A piece may end within a line: `Reading` puts lines together.
+    // A piece may end within a line: `Reading` puts lines together. It refuses a survey of 2^30 bytes, so the loop ends
+    // for any source. The length of a piece has no part in the result.
     let mut piece = [0; 32768];
     loop {
         match src.read(&mut piece) {
@@ -69,7 +73,9 @@ fn read_survey<S: Source>(reading: &mut Reading, src: &mut S) -> Result<usize, D
     }
 }
 
-// Writes the picture of what was read. A cut survey is drawn too, so that its user sees how far it went.
+// Writes the picture of what was read. A survey that is cut is drawn too, so that its user sees how far it went. It is
+// cut where the line of totals is missing, whatever `left` is: that is how many bytes came of its last line, for the
+// closing line of the report.
 fn write_picture<K: Sink>(
     reading: &Reading,
     left: usize,

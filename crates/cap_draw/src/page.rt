@@ -1,4 +1,5 @@
-//! The bytes of a picture. They are put together in memory and go out as one piece.
+//! The bytes of a picture. They are put together in memory and go out as one piece. The clauses `len` say how many
+//! bytes are added at most: so the parts of a picture add up bounds, and measure no text.
 ghost use Rattle.std.specs.Prelude.{◌≡◌, ◌+◌, ◌≤◌, [], ◌++◌, length, decimal, IfOk};
 
 use itoa::Buffer;
@@ -6,6 +7,7 @@ use std::alloc::{AllocError, Global};
 use std::marker::Model;
 
 // No picture is greater. 4,000 columns have at most 480 bytes each, and the rest is for frames, axes and texts.
+// `picture` adds the bounds up.
 const ROOM: usize = 2_000_000;
 
 /// The bytes of a picture as far as it was made: at most 2,000,000. Contracts see it as their list.
@@ -28,7 +30,7 @@ impl Model for Page {
 }
 
 impl Page {
-    /// A page without a byte. The memory for all bytes is allocated here.
+    /// A page without a byte. The memory for all bytes is allocated here, so that nothing that is put can fail.
     pub fn new(alloc: Global) -> Result<Page, AllocError>
         ensures { IfOk result (λ page. page ≡ []) }
     {

@@ -1,4 +1,6 @@
-//! A whole picture, part by part from top to bottom. It is made in two halves, each with a bound on its bytes.
+//! A whole picture, part by part from top to bottom. It is made in two halves, each with a bound on its bytes. A cell
+//! is what is kept of a block, and a plot says how wide and high the parts are and how many columns there are. The
+//! bounds on bytes are sums of what the parts have at most, rounded up; `Page` has room for the whole.
 ghost use Rattle.std.specs.Prelude.{◌≡◌, ◌≤◌, ◌<◌, [], ◌++◌, length};
 ghost use Rattle.cap_draw.specs.Picture.{lower_part, picture, upper_part};
 
@@ -29,7 +31,8 @@ pub fn put_picture(page: &mut Page, cells: &[Cell], closed: bool, most: u16)
 }
 
 // The heading, the totals, and the plot of sums with its axes. What is put later lies over what came before: bars over
-// the lines of the axis, the line at 280 over the bars.
+// the lines of the axis, the line at 280 over the bars. The parts have at most 2,460 bytes before the bars, 800,000 of
+// bars, which are 200 for each of 4,000 columns, and 1,130 after them.
 fn put_upper_part(page: &mut Page, cells: &[Cell], closed: bool, plot: &Plot)
     requires empty { page.old ≡ [] }
     requires few { length cells.now ≤ 2097152 }
@@ -49,7 +52,8 @@ fn put_upper_part(page: &mut Page, cells: &[Cell], closed: bool, plot: &Plot)
     put_block_axis(page, cells, plot);
 }
 
-// The bands of failed rows and of refused blocks, and the legend.
+// The bands of failed rows and of refused blocks, and the legend. They have at most 170 and 110 bytes for each of 4,000
+// columns, and 1,460 besides.
 fn put_lower_part(page: &mut Page, cells: &[Cell], plot: &Plot)
     requires room { length page.old ≤ 804000 }
     requires few { length cells.now ≤ 2097152 }

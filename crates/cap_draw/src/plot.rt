@@ -32,7 +32,8 @@ pub fn plot_of(cells: &[Cell], most: u16) -> Plot
     }
 }
 
-// A whole number of units for each column, together at least 1,000: a plot of few columns isn't narrow.
+// A whole number of units for each column, together at least 1,000: a plot of few columns isn't narrow. It depends on
+// `most` alone, so pictures of short and of long surveys are equally wide. It is below 1,000 + `most`.
 fn plot_width(most: u16) -> u16
     requires some { 0 < most }
     requires most { most ≤ 4000 }
@@ -42,7 +43,9 @@ fn plot_width(most: u16) -> u16
     most * ((999 + most) / most)
 }
 
-// How many PI error rows are a unit: as few as show the peak in 420 units. The greatest peak, 1,664, needs four.
+// How many PI error rows are a unit: as few as show the peak in 420 units. The greatest peak, 1,664, needs four. The
+// other 20 units of the plot are for marks above the bars. By 1, 2 and 4 a line of the axis, one each 70 units, is at
+// 280; by 3 none would be.
 fn scale_for(peak: u16) -> u16
     ensures scale { result ≡ scale_for peak }
     ensures bound { result ≤ 4 }
@@ -57,7 +60,7 @@ fn scale_for(peak: u16) -> u16
 }
 
 /// Where part `k` begins, if a whole is shared among `parts` parts. The product is of 64 bits, since each factor may be
-/// 2^21.
+/// 2^21. Part `parts`, which is none, gives the end of the last. Blocks, widths and ticks are all shared by it.
 pub fn share(k: u32, whole: u32, parts: u32) -> u32
     requires some { 0 < parts }
     requires within { k ≤ parts }

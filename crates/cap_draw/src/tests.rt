@@ -1,4 +1,6 @@
-//! Drawings over memory: what is written, and how a fault of each stream ends.
+//! Drawings over memory: what is written, and how a fault of each stream ends. A `MemSource` is made of its bytes, of
+//! how many a call gives at most, and of the numbers of the calls that fail, counted from 0; a `MemSink` of its room,
+//! and then likewise. Numbers of nines are more than a case comes to.
 use crate::{DrawEnd, Fault, SurveyCause, draw};
 use dvd_ports::{MemSink, MemSource, Source};
 use std::alloc::Global;
@@ -55,6 +57,8 @@ static CASES: [Case; 6] = [
     },
 ];
 
+// Tries a drawing. A picture that was written whole ends in `</svg>`, and a survey that couldn't be read leaves none.
+// Where the output has no room it is empty in any case.
 fn draws(alloc: Global, case: &Case) -> Result<(), Fail> {
     let survey = SURVEY[..case.survey.min(SURVEY.len())].to_vec(alloc)?;
     let mut src = MemSource::new(survey, 50, vec![in alloc; case.broken_read; 1]?);

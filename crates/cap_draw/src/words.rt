@@ -1,4 +1,9 @@
 //! The totals in words, and the legend. With them the picture needs no page beside it.
+//!
+//! `sum8` is the number of PI error rows in a block and the seven before it; ECMA-267 allows 280. The clauses `room`
+//! say what the parts of the picture before have at most, rounded up, and `len` what a part adds at most; `picture`
+//! adds these up. A function puts what one definition of `specs` says, so what may be missing has two: whether it is
+//! there, and what it is.
 ghost use Rattle.std.specs.Prelude.{◌≡◌, ◌≤◌, ◌+◌, ◌++◌, length};
 ghost use Rattle.cap_draw.specs.Words.{counts_text, cut_line, cut_text, head, legend, lower_legend, peak_text, totals_text};
 
@@ -6,7 +11,8 @@ use crate::page::Page;
 use cap_survey::{Cell, Totals, totals_of};
 
 /// Puts what a picture begins with: its size, its classes, a white ground and its heading. 64 units on the left and 44
-/// on the right are for axes and numbers.
+/// on the right are for axes and numbers. The classes are `g` for grey lines, `k` for black and `d` for dashed ones,
+/// `u` for bars, `o` for what is black and `f` for failed rows.
 pub fn put_head(page: &mut Page, width: u16)
     requires room { length page.old ≤ 100 }
     requires width { width ≤ 4999 }
@@ -31,7 +37,8 @@ pub fn put_head(page: &mut Page, width: u16)
     page.put(b"PI error rows of eight blocks (sum8) over a disk</text>\n");
 }
 
-/// Puts the totals in words. They say that the survey is cut, where it is.
+/// Puts the totals in words. They say that the survey is cut, where it is. They are counted of the blocks, since a
+/// survey that is cut has no line of totals.
 pub fn put_totals(page: &mut Page, cells: &[Cell], columns: u16, closed: bool)
     requires room { length page.old ≤ 1000 }
     requires few { length cells.now ≤ 2097152 }
@@ -44,7 +51,8 @@ pub fn put_totals(page: &mut Page, cells: &[Cell], columns: u16, closed: bool)
     put_cut(page, totals.blocks, closed);
 }
 
-// Without the line of totals nothing shows that these are all the lines, so the picture says it.
+// Without the line of totals nothing shows that these are all the lines, so the picture says it. `blocks` is the number
+// of the first block that is missing.
 fn put_cut(page: &mut Page, blocks: u64, closed: bool)
     requires { length page.old ≤ 2000 }
     ensures bytes { page.new ≡ page.old ++ cut_text blocks closed }
@@ -55,6 +63,7 @@ fn put_cut(page: &mut Page, blocks: u64, closed: bool)
     }
 }
 
+// The line of a survey that is cut, in bold letters below the totals.
 fn put_cut_line(page: &mut Page, blocks: u64)
     requires { length page.old ≤ 2000 }
     ensures bytes { page.new ≡ page.old ++ cut_line blocks }
@@ -67,6 +76,7 @@ fn put_cut_line(page: &mut Page, blocks: u64)
     page.put(b". The totals are of the blocks before it.</text>\n");
 }
 
+// Puts the totals of all blocks, and in how many columns they are drawn.
 fn put_counts(page: &mut Page, totals: &Totals, columns: u16)
     requires room { length page.old ≤ 2000 }
     ensures bytes { page.new ≡ page.old ++ counts_text totals.now columns }
@@ -80,6 +90,7 @@ fn put_counts(page: &mut Page, totals: &Totals, columns: u16)
     page.put(b" refused blocks.</text>\n");
 }
 
+// Puts the greatest `sum8`. Of no blocks it is 0, at block 0.
 fn put_peak(page: &mut Page, totals: &Totals)
     requires room { length page.old ≤ 2000 }
     ensures bytes { page.new ≡ page.old ++ peak_text totals.now }

@@ -1,4 +1,5 @@
--- Why the contracts hold: lemmas on blocks that are marked whole, on what came of the blocks of a unit, and on the loop.
+-- Why the contracts hold: lemmas on blocks that are marked whole, on what came of the blocks of a unit, and on the
+-- loop.
 pub mod BlockLemmas
 pub mod HeldLemmas
 pub mod LoopLemmas

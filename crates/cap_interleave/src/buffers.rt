@@ -1,5 +1,9 @@
 //! The buffers of a unit, which is one block of each capture. All of it is kept until the last block came, since none
 //! is written before.
+//!
+//! A block has 208 rows. In the plain form a row has 182 bytes and a block 37,856; in the marked form 23 bytes of mark
+//! bits come after each row, which makes 205 and 42,640. cap_top makes the buffers, so `new` is public; the other calls
+//! are for the loop.
 ghost use Rattle.std.specs.Prelude.{◌≡◌, ◌+◌, ◌*◌, ◌<◌, ◌≤◌, ◌++◌, ◌==◌, [], length, take, slice_index, nat_lt, position, true, is_some, vec_len, vec_capacity, IfOk, IfSome, OnErr, OnOk};
 ghost use Rattle.std.specs.List.{list_all};
 ghost use Rattle.dvd_capture.specs.Captured.{block_size, HasSize};
@@ -15,12 +19,13 @@ use std::alloc::{AllocError, Global};
 use std::marker::Model;
 
 // The bytes of a unit at most: sixteen blocks in the marked form. It is reserved for any number of captures, so that
-// adding a block never needs memory.
+// adding a block never needs memory. The contracts then have one capacity for all numbers of captures.
 const MOST_BYTES: usize = 16 * 42_640;
 
 /// A unit, a block, and how many bytes there were in the last block of each capture. Where blocks are filled, there is
 /// also a lost block: all its bytes are 0 and marked. It takes the place of a missing block, and its end that of what a
-/// block lacks.
+/// block lacks. `block` is where a block is read first, since it may come short. A contract sees the sizes, `held` and
+/// the unit; what is in `block` between reads is of no account.
 #[derive(Drop)]
 pub struct Buffers {
     unit: Vec<u8>,
@@ -43,7 +48,8 @@ impl Model for Buffers {
 }
 
 impl Buffers {
-    /// Buffers for this number of captures, of which nothing was read. All memory is allocated here.
+    /// Buffers for this number of captures, of which nothing was read. All memory is allocated here. `HasSize`: the
+    /// form is plain or marked.
     pub fn new(alloc: Global, form: Form, fill: bool, captures: usize) -> Result<Buffers, NoMemory>
         requires form { HasSize form }
         requires fill { fill ≡ true → form ≡ marked }
@@ -62,13 +68,16 @@ impl Buffers {
     }
 
     /// Empties the unit.
+    /// The memory is kept for the next unit.
     pub(crate) fn clear(&mut self)
         ensures { self.new ≡ record self.old { unit = [] } }
     {
         self.unit.clear();
     }
 
-    /// Reads a block of capture `c` and adds it to the unit. A capture that has ended isn't read again.
+    /// Reads a block of capture `c` and adds it to the unit. A capture that has ended isn't read again. The captures
+    /// are read in their order, so that those before `c` fill at most `c` blocks of the unit. After a failed read
+    /// nothing is promised of the buffers: the loop ends.
     pub(crate) fn read<S: Source>(&mut self, c: usize, src: &mut S) -> Result<(), Failed>
         requires capture { c < length self.old.held }
         requires room { length self.old.unit ≤ 42_640 * c }
@@ -83,9 +92,11 @@ impl Buffers {
 
     /// How the loop ends after block `k` of each capture was read, where the captures don't all have it. It is `Done`
     /// where none has a byte of it. Else it is `Short` in the first capture that lacks some, unless blocks are filled.
+    /// Nothing is changed.
     pub(crate) fn check(&self, k: u32) -> Result<(), InterleaveEnd>
         ensures { ChecksTo self.now k result }
     {
+        // This comes first: captures that all end here are whole, though each of them is short of block `k`.
         if are_empty(&self.held) {
             return Err(InterleaveEnd::Done);
         }
@@ -94,6 +105,7 @@ impl Buffers {
         }
         match first_short(&self.held, self.block.len()) {
             None => Ok(()),
+            // Nothing is cut: there are at most 16 captures, and 42,640 bytes in a block.
             Some(capture) => Err(InterleaveEnd::Short {
                 capture: capture as u32,
                 block: k,
@@ -125,7 +137,8 @@ fn first_short(held: &[usize], size: usize) -> Option<usize>
 }
 
 // Reads a block, if the last one came whole, and answers how many bytes came. A capture whose last block was cut has
-// ended: a terminal would give more after its end, and isn't asked again.
+// ended: a terminal would give more after its end, and isn't asked again. Bytes of the buffer after those that came are
+// of an older block, and no caller looks at them.
 fn fetch<S: Source>(block: &mut [u8], before: usize, src: &mut S) -> Result<usize, Failed>
     ensures size { length block.new ≡ length block.old }
     ensures bound { IfOk result (λ held. held ≤ length block.old) }
@@ -138,7 +151,8 @@ fn fetch<S: Source>(block: &mut [u8], before: usize, src: &mut S) -> Result<usiz
     read_whole(src, block)
 }
 
-// Adds a block to the unit: these bytes, and, where there is a lost block, the rest of that.
+// Adds a block to the unit: these bytes, and, where there is a lost block, the rest of that. So a block that is cut has
+// its own bytes first, and after them zeros with marks. A whole one has no rest.
 fn put_block(unit: &mut Vec<u8>, own: &[u8], lost: &Option<Vec<u8>>)
     requires room { vec_len unit.old + 42_640 ≤ vec_capacity unit.old }
     requires own { length own.now ≤ 42_640 }
@@ -153,7 +167,7 @@ fn put_block(unit: &mut Vec<u8>, own: &[u8], lost: &Option<Vec<u8>>)
     }
 }
 
-// Adds bytes, for which there is room.
+// Adds bytes, for which there is room. So no memory is needed, and the call can't fail.
 fn put(unit: &mut Vec<u8>, bytes: &[u8])
     requires { vec_len unit.old + length bytes.now ≤ vec_capacity unit.old }
     ensures items { unit.new.items ≡ unit.old.items ++ bytes.now }
@@ -166,7 +180,9 @@ fn put(unit: &mut Vec<u8>, bytes: &[u8])
     }
 }
 
-// A block in the marked form of which nothing came. It is made once, and copied where it is needed.
+// A block in the marked form of which nothing came. It is made once, and copied where it is needed. Only `new` calls
+// it, before anything is read, so it may take memory and fail. `using` is for the checker: two lemmas say what no row
+// is, and what one row more is.
 #[tactic(auto, using(crate::proofs::BlockLemmas::rows_none, crate::proofs::BlockLemmas::rows_more))]
 fn lost_block(alloc: Global) -> Result<Vec<u8>, NoMemory>
     ensures block { IfOk result (λ block. block.items ≡ lost_block) }

@@ -1,4 +1,5 @@
-//! How the loop ends. An end names the capture, so that its user knows which file to look at.
+//! How the loop ends. An end names the capture, so that its user knows which file to look at. The lines of the report
+//! are made of it in cap_top, which counts files from 1.
 
 /// How the loop over the blocks of captures ends. Captures, blocks and bytes are counted from 0.
 #[derive(Clone, Copy, Debug, PartialEq, Eq)]

@@ -1,4 +1,5 @@
 //! The loop over the blocks of several captures. It has several inputs, so that the loop of dvd_loop doesn't serve it.
+//! A unit is block `k` of each capture, counted from 0. Of a capture that has ended no byte comes.
 ghost use Rattle.std.specs.Prelude.{◌≡◌, ◌≤◌, length, IfErr, OnOk};
 ghost use Rattle.cap_interleave.specs.Inner.{AreReadTo, EndsBroken, IsTurn, fresh, task_of};
 ghost use Rattle.cap_interleave.specs.Interleaved.{IsInterleaved};
@@ -8,7 +9,8 @@ use crate::ends::InterleaveEnd;
 use dvd_ports::{Failed, Sink, Source, WriteFault};
 
 /// Writes block 0 of each capture, then block 1 of each, and so on. Nothing is tried again: a failed call, and a read
-/// that met the end of a capture, is the last of its stream.
+/// that met the end of a capture, is the last of its stream. The buffers are those that `Buffers::new` made for as many
+/// captures. Sixteen captures are what a unit has room for.
 pub fn interleave_loop<S: Source, K: Sink>(
     buffers: &mut Buffers,
     captures: &mut [S],
@@ -19,6 +21,7 @@ pub fn interleave_loop<S: Source, K: Sink>(
     requires few { length captures.old ≤ 16 }
     ensures { IsInterleaved S.seen (task_of buffers.old) captures.old captures.new (K.seen out.old) (K.seen out.new) result }
 {
+    // `turn` answers the other ends. A block number has 32 bits, so that captures without end come to `Long`.
     for k in 0..u32::MAX {
         if let Err(end) = turn(k, buffers, captures, out) {
             return end;
@@ -48,7 +51,8 @@ fn turn<S: Source, K: Sink>(
     }
 }
 
-// Reads the next block of each capture, in their order. A failed read ends it there.
+// Reads the next block of each capture, in their order. A failed read ends it there: the captures after it are as they
+// were, and the unit isn't written. Which blocks are short is asked later, by `check`.
 fn read_unit<S: Source>(buffers: &mut Buffers, captures: &mut [S]) -> Result<(), InterleaveEnd>
     requires count { length captures.old ≡ length buffers.old.held }
     requires few { length captures.old ≤ 16 }

@@ -1,11 +1,14 @@
-//! Runs over memory: blocks in turn, captures that end, and a fault of each stream.
+//! Runs over memory: blocks in turn, captures that end, and a fault of each stream. A `MemSource` is made of its bytes,
+//! of how many a call gives at most, and of the numbers of the calls that fail, counted from 0; a `MemSink` of its
+//! room, and then likewise.
 use crate::{Buffers, InterleaveEnd, interleave_loop};
 use dvd_capture::Form;
 use dvd_ports::{MemSink, MemSource, Source};
 use std::alloc::Global;
 use std::test::Fail;
 
-// This number of bytes, each of which depends on its number and on that of the capture.
+// This number of bytes, each of which depends on its number and on that of the capture. So a byte at a wrong place or
+// of a wrong capture is found.
 fn capture(alloc: Global, number: u8, count: usize) -> Result<Vec<u8>, Fail> {
     let mut bytes = Vec::new(alloc);
     for k in 0..count {
@@ -14,7 +17,9 @@ fn capture(alloc: Global, number: u8, count: usize) -> Result<Vec<u8>, Fail> {
     Ok(bytes)
 }
 
-// A run over three captures of these lengths. The second fails at a call, and the output has room for `room` bytes.
+// A run over three captures of these lengths. The second fails at a call, and the output has room for `room` bytes. A
+// read gives at most 1,000 bytes, so that a plain block takes 38 reads. `blocks` counts those of which bytes are
+// wanted: more than `room` has room for is cut.
 struct Case {
     form: Form,
     fill: bool,
@@ -25,8 +30,10 @@ struct Case {
     blocks: usize,
 }
 
+// The bytes of a block in the marked form.
 const WIDE: usize = 42_640;
 
+// The number of a read that no run comes to: none fails.
 const NONE: u64 = 9999;
 
 // A run in each row: form, whether blocks are filled, lengths of the captures, the read that fails, and the room. Then
@@ -81,7 +88,8 @@ fn size_of(form: Form) -> usize {
     }
 }
 
-// The first `blocks` blocks of each capture, in turn.
+// The first `blocks` blocks of each capture, in turn, as far as the output has room. Where a capture lacks a byte, that
+// of a lost block is wanted.
 fn wanted(alloc: Global, case: &Case, captures: &[Vec<u8>]) -> Result<Vec<u8>, Fail> {
     let size = size_of(case.form);
     let mut bytes = Vec::new(alloc);
@@ -97,6 +105,7 @@ fn wanted(alloc: Global, case: &Case, captures: &[Vec<u8>]) -> Result<Vec<u8>, F
     Ok(bytes)
 }
 
+// Tries a run. `Buffers::new` is called with a known form in each arm, as its contract asks of `fill`.
 fn runs(alloc: Global, case: &Case) -> Result<(), Fail> {
     let mut captures = Vec::new(alloc);
     let mut sources = Vec::new(alloc);

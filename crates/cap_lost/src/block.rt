@@ -1,5 +1,11 @@
 //! The lines that `recover` and `deep` write of blocks. Each is compared to the byte with what they write, so that a
-//! line of another layout or program isn't believed.
+//! line of another layout or program isn't believed. The lines are `block K sector H6 layer L: CAUSE N saved S` of a
+//! refused block, `block K sector H6 layer L: address N found H8 saved S` where a frame has the ID of another place,
+//! and `block K sector H6 layer L: round T` of one that `deep` gave back. `H6` and `H8` are hexadecimal digits.
+//!
+//! The clauses `some` say that a block that a line names has an image sector. So each line moves the draft on, which
+//! bounds its counts. `reader` asks for what is said here. `HasNumbers` says that the sector numbers of a block have 24
+//! bits, as in every plan, so that `H6` has them whole.
 ghost use Rattle.std.specs.Prelude.{◌≡◌, ◌<◌, codes, option_map, IfOk};
 ghost use Rattle.dvd_layout.specs.Place.{HasNumbers};
 ghost use Rattle.cap_lost.specs.Blocks.{after_address, after_front, block_said, entry_said, extent_of, front_of, is_numbered, is_refusal, is_round, is_saved, is_some_and, what_said};
@@ -14,6 +20,7 @@ use dvd_layout::{BlockPlan, Content, Layout, Zones};
 use dvd_report::{Line, put_block};
 
 /// What a line that begins with the word `block` says.
+/// `rest` is what comes after that word. The whole line is read too, since it is compared from its first byte.
 pub fn block_said(
     layout: &Layout,
     zones: Zones,
@@ -26,6 +33,7 @@ pub fn block_said(
     let Some((k, _)) = number_first(rest) else {
         return Err(ReportCause::Line);
     };
+    // A plan has an entry for the blocks of the layout alone.
     if k >= layout.blocks(zones) {
         return Err(ReportCause::Block);
     }
@@ -34,6 +42,7 @@ pub fn block_said(
 }
 
 // What a line of block `k`, which has this entry, says.
+// A line of another layout is reported as such, whatever the block of that number holds in this one.
 fn place_said(layout: &Layout, k: u64, plan: &BlockPlan, line: &[u8]) -> Result<Said, ReportCause>
     requires { HasNumbers plan.now }
     ensures said { result ≡ after_front layout.now plan.now (without_prefix (front_of k plan.now) line.now) }
@@ -44,6 +53,7 @@ fn place_said(layout: &Layout, k: u64, plan: &BlockPlan, line: &[u8]) -> Result<
         return Err(ReportCause::Place);
     };
     let extent = extent_of(layout, plan.content);
+    // `recover` and `deep` decode no such block, so they write no line of it.
     if extent.to <= extent.from {
         return Err(ReportCause::NoImage);
     }
@@ -62,7 +72,9 @@ fn front_of(k: u64, plan: &BlockPlan) -> Line
     line
 }
 
-// The image sectors of a block: none in a block of another zone, and fewer than sixteen in the last of the image.
+// The image sectors of a block: none in a block of another zone, and fewer than sixteen in the last of the image, whose
+// other sectors are padding. They end with the image at the latest, so the sum fits 32 bits. From 0 to 0 there are
+// none, which the caller tests.
 fn extent_of(layout: &Layout, content: Content) -> Extent
     ensures { result ≡ extent_of layout.now content }
 {
@@ -75,7 +87,8 @@ fn extent_of(layout: &Layout, content: Content) -> Extent
     }
 }
 
-// `recover` writes the first kind alone, and `deep` both.
+// `recover` writes the first kind alone, and `deep` both. A block that a round gave back is in the image, so it isn't
+// lost. It is kept all the same, as the next line has to name a later block.
 fn what_said(extent: Extent, what: &[u8]) -> Result<Said, ReportCause>
     requires { extent.from < extent.to }
     ensures said { result ≡ what_said extent what.now }
@@ -91,7 +104,7 @@ fn what_said(extent: Extent, what: &[u8]) -> Result<Said, ReportCause>
 }
 
 // Whether this is the cause of a refused block, and how many of its frames were salvaged. A number is below the count
-// of what it numbers: 182 columns, 208 rows, 16 frames. Of failed rows there may be 208.
+// of what it numbers: 182 columns, 208 rows, 16 frames. `rows` counts failed rows, of which there may be 208.
 fn is_refusal(what: &[u8]) -> bool
     ensures { result ≡ is_refusal what.now }
 {
@@ -104,6 +117,7 @@ fn is_refusal(what: &[u8]) -> bool
 }
 
 // Whether this is a cause with a name and a number below a bound.
+// The cause is followed by the count of salvaged frames.
 fn is_numbered(what: &[u8], name: &[u8], bound: u64) -> bool
     ensures { result ≡ is_numbered name.now bound what.now }
 {
@@ -123,7 +137,8 @@ fn is_address(what: &[u8]) -> bool
     }
 }
 
-// What comes after the frame that names another place, and the ID found in it. Neither is used.
+// What comes after the frame that names another place, and the ID found in it. Neither is used. By itself, as `?` needs
+// a function that answers an option.
 fn after_address<'a>(what: &'a [u8]) -> Option<&'a [u8]>
     ensures { option_map (λ rest. rest.now) result ≡ after_address what.now }
 {
@@ -144,7 +159,8 @@ fn is_saved(rest: &[u8]) -> bool
     }
 }
 
-// Whether this is the round that gave a block back. `deep` has at most four.
+// Whether this is the round that gave a block back. `deep` has at most four, counted from 1. `after_number` would
+// accept a round 0 too.
 fn is_round(what: &[u8]) -> bool
     ensures { result ≡ is_round what.now }
 {

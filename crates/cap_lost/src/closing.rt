@@ -1,4 +1,7 @@
-//! The line that closes a report. It says how far the run came, and so how much of the image was written.
+//! The line that closes a report. It says how far the run came, and so how much of the image was written. It is `done`,
+//! `damaged: N blocks` or `long` of a whole image, `short: block K, B bytes` or `bad marks: block K, byte A` of one
+//! that stopped, and `read fault` or `write fault`. Lines of runs that wrote no image, as `usage`, close no such
+//! report. `reader` asks for what is said here.
 ghost use Rattle.std.specs.Prelude.{◌≡◌, ◌<◌, length, take, IfOk, IfSome, IfNone};
 ghost use Rattle.dvd_layout.specs.Place.{image_before, image_sectors};
 ghost use Rattle.dvd_layout.specs.Plan.{plan_of};
@@ -16,9 +19,11 @@ pub fn closing_said(layout: &Layout, zones: Zones, line: &[u8]) -> Result<Said, 
     ensures said { result ≡ closing_said layout.now zones line.now }
     ensures some { IfOk result NamesSectors }
 {
+    // No line has two of these forms, so the order of the tests has no part in the answer.
     if is_fault(line) {
         return Err(ReportCause::Fault);
     }
+    // The capture went on after the last block. This line comes in the place of the count, so none can be compared.
     if is_text(line, b"long") {
         return Ok(Said::Ended {
             refused: None,
@@ -37,14 +42,16 @@ pub fn closing_said(layout: &Layout, zones: Zones, line: &[u8]) -> Result<Said, 
     }
 }
 
-// Whether a fault ended the run: how much it wrote isn't known then.
+// Whether a fault ended the run: how much it wrote isn't known then, as the line names no block. So there is no map,
+// and the cause says why.
 fn is_fault(line: &[u8]) -> bool
     ensures { result ≡ is_fault line.now }
 {
     is_text(line, b"read fault") || is_text(line, b"write fault")
 }
 
-// How many blocks were refused, where the report is of a whole image.
+// How many blocks were refused, where the report is of a whole image. The draft compares it with the lines that came,
+// and `damaged: 0 blocks`, which `dvdecc` doesn't write, is read as `done`.
 fn counted_in(line: &[u8]) -> Option<u64>
     ensures { result ≡ counted_in line.now }
 {
@@ -69,6 +76,7 @@ fn stopped_in(line: &[u8]) -> Option<u64>
     }
 }
 
+// `short: block K, B bytes`: the capture ended in block K, after B of its bytes.
 fn short_in(line: &[u8]) -> Option<u64>
     ensures { result ≡ short_in line.now }
 {
@@ -81,6 +89,7 @@ fn short_in(line: &[u8]) -> Option<u64>
     }
 }
 
+// `bad marks: block K, byte A`: the marks of a listed capture break a rule in block K.
 fn bad_marks_in(line: &[u8]) -> Option<u64>
     ensures { result ≡ bad_marks_in line.now }
 {
@@ -89,7 +98,7 @@ fn bad_marks_in(line: &[u8]) -> Option<u64>
     if rest.is_empty() { Some(k) } else { None }
 }
 
-// The image sectors of the blocks before this one were written.
+// The image sectors of the blocks before this one were written. The line doesn't say how many of those were refused.
 fn stopped_at(layout: &Layout, zones: Zones, k: u64) -> Result<Said, ReportCause>
     ensures said { result ≡ stopped_at layout.now zones k }
     ensures some { IfOk result NamesSectors }
@@ -104,7 +113,8 @@ fn stopped_at(layout: &Layout, zones: Zones, k: u64) -> Result<Said, ReportCause
 }
 
 // How many image sectors the blocks before one hold: the first of the next block that has any, or all. Blocks of the
-// lead-in and other zones hold none, so the next that holds some is looked for.
+// lead-in and other zones hold none, so the next that holds some is looked for. Blocks hold the image in its order, so
+// nothing need be added up.
 fn written_before(layout: &Layout, zones: Zones, k: u64) -> u32
     requires { k < length (plan_of layout.now zones) }
     ensures { result ≡ image_before layout.now (take k (plan_of layout.now zones)) }
@@ -119,7 +129,8 @@ fn written_before(layout: &Layout, zones: Zones, k: u64) -> u32
     layout.total()
 }
 
-// The first image sector of a block, if it holds any.
+// The first image sector of a block, if it holds any. The clauses are for the loop, which needs to know that a block
+// without one adds nothing.
 fn image_first(layout: &Layout, content: Content) -> Option<u32>
     ensures some { IfSome result (λ first. content ≡ Content.Image first) }
     ensures none { IfNone result (image_sectors layout.now content ≡ 0) }

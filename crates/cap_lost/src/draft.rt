@@ -1,4 +1,9 @@
 //! What the lines of a report say together: extents of lost sectors, in order and joined where they touch.
+//!
+//! Each line of a block moves `next` on by a sector at least (`NamesSectors`, `goes_on`). So `refused` is at most
+//! `next` (`IsCounted`) and fits 32 bits, and the reader's number of lines has a bound. `closing_count` is 1 once the
+//! closing line came, and 0 before, so that this line counts as progress too. `IsStopOf` says that a rule that is
+//! broken is the one that the definition names; of `NoMemory` nothing is claimed.
 ghost use Rattle.std.specs.Prelude.{◌≡◌, ◌+◌, ◌≤◌, ◌<◌, None, Some, Ok, OnOk, IfErr};
 ghost use Rattle.cap_lost.specs.Inner.{IsCounted, IsStopOf, NamesSectors, closing_count, sayings_of};
 ghost use Rattle.cap_lost.specs.Report.{is_count, is_end, last_of, nothing_said, with_end, with_extent, with_said};
@@ -15,11 +20,11 @@ pub enum Said {
     /// The block with these image sectors was given back by a round.
     GivenBack(Extent),
     /// The run ended. This number of blocks was refused, where the line says so, and this number of image sectors was
-    /// written.
+    /// written. `refused` has 64 bits, since it is what the line says, which may be wrong.
     Ended { refused: Option<u64>, written: u32 },
 }
 
-/// Why a line isn't accepted.
+/// Why a line isn't accepted. A draft doesn't know the number of its line: the reader makes a `ReportFault` of this.
 #[derive(Clone, Copy, Debug, PartialEq, Eq)]
 pub enum ReportStop {
     /// It breaks a rule.
@@ -39,7 +44,8 @@ pub struct Lost {
 
 /// What was said so far: the sectors of refused blocks, and the sector after those of the last block that was named.
 /// How many blocks were refused, and, once that is said, how many sectors were written. Blocks are named in their
-/// order, so one sector number says which may still come.
+/// order, so one sector number says which may still come. Its fields are public for the reader, which ends with them.
+/// `refused` is compared with the closing line, and is no part of the result.
 #[derive(Drop)]
 pub struct LossesDraft {
     pub extents: Vec<Extent>,
@@ -61,7 +67,8 @@ impl LossesDraft {
         }
     }
 
-    /// Adds what one more line says. At `Err` nothing is promised of the draft.
+    /// Adds what one more line says. At `Err` nothing is promised of the draft: the report is given up then. The reader
+    /// asks first whether the end was said (`before_end`).
     pub fn add(&mut self, said: Said) -> Result<(), ReportStop>
         requires counted { IsCounted self.old }
         requires some { NamesSectors said }
@@ -78,7 +85,7 @@ impl LossesDraft {
         }
     }
 
-    // Adds the sectors of a refused block.
+    // Adds the sectors of a refused block. Its place in the order is tested first, before anything is counted.
     fn refuse(&mut self, extent: Extent) -> Result<(), ReportStop>
         requires counted { IsCounted self.old }
         requires some { extent.from < extent.to }
@@ -93,7 +100,8 @@ impl LossesDraft {
         self.lose(extent)
     }
 
-    // Passes the sectors of a block that a line names.
+    // Passes the sectors of a block that a line names. For a block that was given back that is all. Only `next` is
+    // written, and nothing after a refusal.
     fn pass(&mut self, extent: Extent) -> Result<(), ReportStop>
         requires some { extent.from < extent.to }
         ensures added { OnOk result (with_said (sayings_of self.old) (Said.GivenBack extent) ≡ Ok (sayings_of self.new)) }
@@ -138,7 +146,7 @@ impl LossesDraft {
         }
     }
 
-    // Gives the last extent another end.
+    // Gives the last extent another end. `lose` has found one; without any nothing would change.
     fn lengthen(&mut self, to: u32)
         ensures longer { self.new.extents.items ≡ with_end self.old.extents.items (last_of self.old.extents.items) to }
         ensures next { self.new.next ≡ self.old.next }
@@ -160,6 +168,7 @@ impl LossesDraft {
         if !self.counts(refused) {
             return Err(ReportStop::Rule(ReportCause::Count));
         }
+        // A run that stopped before a sector that a line names can't have come to that line.
         if written < self.next {
             return Err(ReportStop::Rule(ReportCause::Order));
         }
@@ -167,7 +176,8 @@ impl LossesDraft {
         Ok(())
     }
 
-    // Whether a closing line that counts this number of refused blocks, or none, is right.
+    // Whether a closing line that counts this number of refused blocks, or none, is right. One that counts none, as
+    // `short`, is right after any lines.
     fn counts(&self, refused: Option<u64>) -> bool
         ensures { result ≡ is_count self.now.refused refused }
     {

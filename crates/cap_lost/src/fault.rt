@@ -1,4 +1,6 @@
-//! Why a report isn't read.
+//! Why a report isn't read. The texts are those that the report of `dvdcap lost` has for them. A layout is the disk's
+//! shape, the lengths of its zones and its image, as the options say; it gives each block its place and its image
+//! sectors.
 
 use thiserror::Error;
 

@@ -1,4 +1,5 @@
-//! Texts and numbers at the beginning of a text: the parts of which lines are read.
+//! Texts and numbers at the beginning of a text: the parts of which lines are read. Nothing is passed over: what isn't
+//! as `dvdecc` writes it is refused, even a zero or a blank too many. `block`, `closing` and `reader` call these.
 ghost use Rattle.std.specs.Prelude.{◌≡◌, ◌≤◌, length, bytes_eq, option_map};
 ghost use Rattle.std.specs.List.{list_all};
 ghost use Rattle.cap_lost.specs.Fronts.{without_prefix, after_number, after_eight_digits, digits_of, is_capital_digit, number_first};
@@ -21,7 +22,8 @@ pub fn without_prefix<'a>(text: &'a [u8], front: &[u8]) -> Option<&'a [u8]>
 }
 
 /// The number that a text begins with, as `dvdecc` writes it, and what comes after its digits. Zeros before other
-/// digits aren't so written: the number is written again and compared.
+/// digits aren't so written: the number is written again and compared. `digits_in` gives none without a digit, and none
+/// from 2^63 on. So no rule about zeros is needed.
 pub fn number_first<'a>(text: &'a [u8]) -> Option<(u64, &'a [u8])>
     ensures { option_map (λ found. (found.0, found.1.now)) result ≡ number_first text.now }
 {
@@ -34,6 +36,7 @@ pub fn number_first<'a>(text: &'a [u8]) -> Option<(u64, &'a [u8])>
     }
 }
 
+// How many decimal digits a text begins with.
 fn count_digits(text: &[u8]) -> usize
     ensures count { result ≡ digits_of text.now }
     ensures bound { result ≤ length text.now }
@@ -56,7 +59,8 @@ pub fn after_number<'a>(text: &'a [u8], bound: u64) -> Option<&'a [u8]>
     if number < bound { Some(rest) } else { None }
 }
 
-/// What comes after eight hexadecimal digits with capitals, if a text begins with them. An ID is so written.
+/// What comes after eight hexadecimal digits with capitals, if a text begins with them. An ID is so written. Its value
+/// may be any, so it isn't read.
 pub fn after_eight_digits<'a>(text: &'a [u8]) -> Option<&'a [u8]>
     ensures { option_map (λ rest. rest.now) result ≡ after_eight_digits text.now }
 {
@@ -77,6 +81,7 @@ fn are_capital_digits(text: &[u8]) -> bool
     text.iter().all(|byte| is_capital_digit(*byte))
 }
 
+// `dvdecc` writes no small letters, so these are refused.
 fn is_capital_digit(byte: u8) -> bool
     ensures { result ≡ is_capital_digit byte }
 {

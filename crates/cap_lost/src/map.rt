@@ -1,5 +1,6 @@
 //! The map of an image. A `+` is for sectors that were written and not lost, a `-` for those of refused blocks. The
-//! sectors after the end of the run have a `?`: they weren't tried.
+//! sectors after the end of the run have a `?`: they weren't tried. cap_top writes the map, after the whole report was
+//! read. The clause `cause` says by the counts of a sink whether a write failed.
 ghost use Rattle.std.specs.Prelude.{◌≡◌, ◌+◌, ◌*◌, ◌≤◌, ◌<◌, ◌^◌, ◌++◌, [], ◌∷◌, length, true, IfOk, OnOk, OnErr};
 ghost use Rattle.std.specs.Fmt.{digit_glyph};
 ghost use Rattle.arrayvec.specs.ArrayVec.{array_vec_len};
@@ -15,6 +16,7 @@ use arrayvec::ArrayVec;
 use dvd_ports::{Sink, WriteFault, write_whole};
 
 // How many extents are written together. So the memory is the same for any map, and a line isn't a write of its own.
+// Any number would do; `Lines` has room for this one.
 const TOGETHER: usize = 64;
 
 // The lines of that many extents: two for each, of at most 28 bytes. A line has two numbers of at most 11 bytes, four
@@ -26,7 +28,8 @@ static HEAD: &[u8] =
     b"# Mapfile. Created by dvdcap\n# current_pos  current_status  current_pass\n0x00000000     +               1\n#      pos        size  status\n";
 
 /// Writes the map of an image of `total` sectors, some thousand bytes at once. After a fault a prefix of it was
-/// written.
+/// written. That the extents ascend, and end within `written`, and this within `total`, is what holds of the answer of
+/// `read_report`, by `losses_are_in_order` of `laws`. It isn't required here: the map is as defined for any numbers.
 pub fn write_map<K: Sink>(lost: &Lost, total: u32, out: &mut K) -> Result<(), WriteFault>
     ensures { IsWritten (map_text lost.now.extents.items lost.now.written total) (K.seen out.old) (K.seen out.new) result }
 {
@@ -42,6 +45,8 @@ pub fn write_map<K: Sink>(lost: &Lost, total: u32, out: &mut K) -> Result<(), Wr
 }
 
 // Writes the lines of a few extents, which come after this sector, and answers the sector after them.
+// `few` is what `Lines` has room for: 64 times two lines of 28 bytes. Three clauses say what
+// `IsWritten` says of an answer without a value.
 fn write_extents<K: Sink>(at: u32, extents: &[Extent], out: &mut K) -> Result<u32, WriteFault>
     requires few { length extents.now ≤ 64 }
     ensures written { OnOk result (Appends (K.seen out.old).bytes (K.seen out.new).bytes (extent_lines at extents.now)) }
@@ -55,7 +60,8 @@ fn write_extents<K: Sink>(at: u32, extents: &[Extent], out: &mut K) -> Result<u3
     Ok(end)
 }
 
-// Writes the lines after the last extent.
+// Writes the lines after the last extent: `+` up to what was written, and `?` to the end of the image. Either may be
+// missing. There are always these two at most, so they go out together.
 fn write_last<K: Sink>(at: u32, written: u32, total: u32, out: &mut K) -> Result<(), WriteFault>
     ensures { IsWritten (last_lines at written total) (K.seen out.old) (K.seen out.new) result }
 {
@@ -65,7 +71,8 @@ fn write_last<K: Sink>(at: u32, written: u32, total: u32, out: &mut K) -> Result
     write_whole(out, lines.as_slice())
 }
 
-// Puts the lines of extents, which come after this sector, and answers the sector after them.
+// Puts the lines of extents, which come after this sector, and answers the sector after them. So the next call goes on
+// from there, and each sector has a line.
 fn put_extents(lines: &mut Lines, at: u32, extents: &[Extent]) -> u32
     requires empty { lines.old.items ≡ [] }
     requires few { length extents.now ≤ 64 }
@@ -81,7 +88,8 @@ fn put_extents(lines: &mut Lines, at: u32, extents: &[Extent]) -> u32
     end
 }
 
-// Puts the line of the sectors from one to the one before an end, which have this status: none where there are none.
+// Puts the line of the sectors from one to the one before an end, which have this status: none where there are none, as
+// before an extent that begins at sector 0. A block of a map has a byte at least.
 fn put_line(lines: &mut Lines, from: u32, to: u32, status: u8)
     requires room { array_vec_len lines.old + 28 ≤ 3584 }
     ensures items { lines.new.items ≡ lines.old.items ++ sectors_line from to status }
@@ -104,7 +112,7 @@ fn bytes_of(sectors: u32) -> u64
 }
 
 // Puts a number in hexadecimal, of eight digits or nine. An image has fewer than 2^36 bytes, since each of two layers
-// has sector numbers of 24 bits.
+// has sector numbers of 24 bits. ddrescue writes eight at least.
 fn put_number(lines: &mut Lines, number: u64)
     requires room { array_vec_len lines.old + 11 ≤ 3584 }
     ensures items { lines.new.items ≡ lines.old.items ++ number_text number }
@@ -127,6 +135,7 @@ fn put_digits(lines: &mut Lines, number: u64, width: u32)
     }
 }
 
+// A table, since the digits from A on don't follow 9 in ASCII.
 fn hexadecimal_digit(value: u64) -> u8
     requires { value < 16 }
     ensures { result ≡ digit_glyph true value }
@@ -134,6 +143,7 @@ fn hexadecimal_digit(value: u64) -> u8
     b"0123456789ABCDEF"[value as usize]
 }
 
+// Puts bytes at the end of the lines.
 fn put(lines: &mut Lines, bytes: &[u8])
     requires room { array_vec_len lines.old + length bytes.now ≤ 3584 }
     ensures items { lines.new.items ≡ lines.old.items ++ bytes.now }

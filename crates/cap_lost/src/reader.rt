@@ -1,5 +1,9 @@
 //! Lines out of bytes that come in pieces. One line is kept at a time, so that a report of any length needs no memory
 //! but for its extents.
+//!
+//! `goes_on` in the clauses is the result of a report that has these bytes after those that came. A fault is that of
+//! each report that begins so. `HasReadOn` counts a line as 129 bytes, so that each byte is progress and `read_report`
+//! ends. `report` reads by it. At `NoMemory` nothing is claimed of the report.
 ghost use Rattle.std.specs.Prelude.{◌≡◌, ◌+◌, ◌<◌, ◌≤◌, ◌++◌, [], ◌∷◌, ℕ, List, Ok, codes, length, IfOk, OnOk, IfErr};
 ghost use Rattle.cap_lost.specs.Inner.{HasReadOn, IsCounted, IsReaderSound, IsStopOf, NamesSectors, StopsAs, closing_count, goes_on, sayings_of};
 ghost use Rattle.cap_lost.specs.Report.{IsFaultOf, line_read, losses_of, word_said};
@@ -16,10 +20,12 @@ use dvd_layout::{Layout, Zones};
 use std::alloc::Global;
 
 // No line that is read has more bytes. What `dvdecc` writes of a block is shorter, so a longer line is refused before
-// it ends.
+// it ends. The longest that is accepted has 74 bytes where its block number has ten digits, so any bound from that up
+// would do.
 const LONGEST: usize = 128;
 
 /// A report of this layout, as far as it came: what its whole lines say, and the number and the bytes of the next line.
+/// The number counts from 1, for the fault.
 #[derive(Drop)]
 pub struct Reader {
     layout: Layout,
@@ -44,7 +50,8 @@ impl Reader {
         }
     }
 
-    /// Reads one more piece of the report.
+    /// Reads one more piece of the report. At `Err` the rest of the piece isn't looked at, and nothing is promised of
+    /// the reader: it is given up.
     pub fn take(&mut self, piece: &[u8]) -> Result<(), ReportFault>
         requires sound { IsReaderSound self.old }
         ensures read { OnOk result ((rest : List ℕ) → goes_on self.old (piece.now ++ rest) ≡ goes_on self.new rest) }
@@ -76,7 +83,8 @@ impl Reader {
         Ok(())
     }
 
-    // Reads the line that came, as one that a line feed ends.
+    // Reads the line that came, as one that a line feed ends. The clauses `_last` are for a last line without line
+    // feed.
     fn end_line(&mut self) -> Result<(), ReportFault>
         requires sound { IsReaderSound self.old }
         ensures read { OnOk result ((rest : List ℕ) → goes_on self.old (10 ∷ rest) ≡ goes_on self.new rest) }
@@ -95,6 +103,7 @@ impl Reader {
         ) {
             Ok(()) => {
                 self.line.clear();
+                // It fits 64 bits: each line before the closing one names a sector more.
                 self.number += 1;
                 Ok(())
             }
@@ -114,7 +123,8 @@ impl Reader {
     }
 
     /// What the report says, if it ends here. The last line may lack its line feed. Without a closing line how much was
-    /// written isn't known.
+    /// written isn't known. `number` is then that of the line after the last, which is missing. The reader is used up,
+    /// as its extents are handed on.
     pub fn finish(mut self) -> Result<Lost, ReportFault>
         requires sound { IsReaderSound self }
         ensures read { IfOk result (λ lost. goes_on self [] ≡ Ok (losses_in lost)) }
@@ -130,7 +140,8 @@ impl Reader {
         }
     }
 
-    // Reads the line that came, if any did, as the last.
+    // Reads the line that came, if any did, as the last. After a line feed there is none: an empty line would be
+    // refused.
     fn end_last(&mut self) -> Result<(), ReportFault>
         requires sound { IsReaderSound self.old }
         ensures read { OnOk result (goes_on self.old [] ≡ goes_on self.new []) }
@@ -144,7 +155,9 @@ impl Reader {
     }
 }
 
-// Nothing may come after the closing line, whatever it says.
+// Nothing may come after the closing line, whatever it says. It is no method, since the line and the draft are parts of
+// the reader, and the draft alone changes. By definition a line over 128 bytes is refused; `take_byte` has done so
+// before (`short`).
 fn read_line(
     layout: &Layout,
     zones: Zones,

@@ -1,4 +1,6 @@
-//! Reports of small disks, and the maps that they give.
+//! Reports of small disks, and the maps that they give. A `MemSource` is made of its bytes, of how many a call gives at
+//! most, and of the numbers of the calls that fail, counted from 0; a `MemSink` of its room, and then likewise. The
+//! steps may be any.
 use crate::{ReportCause, ReportFault, read_report, write_map};
 use dvd_layout::{Layout, Shape, Zones};
 use dvd_ports::{Failed, MemSink, MemSource, SliceSource, Source};
@@ -41,6 +43,7 @@ fn layout() -> Option<Layout> {
     Layout::new(Shape::Single, 40, 0, 0, 0).ok()
 }
 
+// Tries that a report gives these lines of a map after the head.
 fn gives(
     alloc: Global,
     layout: Layout,
@@ -113,7 +116,7 @@ fn blocks_of_layer_1(rt: HostRuntime) -> Result<(), Fail> {
     )
 }
 
-// A report, the line that breaks a rule, and the rule.
+// A report, the line that breaks a rule, and the rule. Line 0: it breaks none, and the rule isn't used.
 type Bad = (&'static str, u64, ReportCause);
 
 static BAD: [Bad; 38] = [
@@ -237,6 +240,7 @@ static BAD: [Bad; 38] = [
     ),
 ];
 
+// Tries that a report is refused at this line for this rule. At line 0 it is accepted.
 fn is_refused(alloc: Global, layout: Layout, zones: Zones, case: &Bad) -> Result<(), Fail> {
     let answer = read_report(
         alloc,
@@ -277,7 +281,7 @@ fn lines_without_an_end_and_faults(rt: HostRuntime) -> Result<(), Fail> {
     let Some(layout) = layout() else {
         return Err("layout")?;
     };
-    // No more than a piece is read of a line that has no end.
+    // No more than a piece is read of a line that has no end: of 9,000 bytes 4,096, which leaves 4,904.
     let mut endless = MemSource::new(vec![in alloc; 7u8; 9000]?, 9000, Vec::new(alloc));
     let answer = read_report(alloc, layout, Zones::DataOnly, &mut endless);
     let too_long = ReportFault::Rule {

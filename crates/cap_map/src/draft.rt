@@ -1,5 +1,9 @@
 //! What a map says, as far as it was read. It goes from the line of the state to blocks, each of which begins where the
 //! one before it ended.
+//!
+//! A map's text has comments, then a line with the state of the run of ddrescue that wrote it, and a line for each
+//! block: position, size and status. A block becomes a span, which has its end and whether its status is trusted.
+//! `IsStopOf` says that a rule that is broken is the one that the definition names; of `NoMemory` nothing is claimed.
 ghost use Rattle.std.specs.Prelude.{◌≡◌, ◌++◌, [], ◌∷◌, Ok, OnOk, IfOk, IfErr};
 ghost use Rattle.cap_map.specs.Inner.{IsStopOf, read_of};
 ghost use Rattle.cap_map.specs.Lines.{line_fields};
@@ -10,7 +14,7 @@ use crate::fields::line_fields;
 use crate::line::{MapBlock, is_among, is_state, map_block};
 use crate::span::Span;
 
-/// Why a line isn't accepted.
+/// Why a line isn't accepted. `read_map`, which counts lines, makes a fault of it.
 #[derive(Clone, Copy, Debug, PartialEq, Eq)]
 pub enum MapStop {
     /// It breaks a rule.
@@ -19,7 +23,8 @@ pub enum MapStop {
     NoMemory,
 }
 
-/// Whether the line of the state has come, and the spans of the blocks that came.
+/// Whether the line of the state has come, and the spans of the blocks that came. The fields are public for `read_map`,
+/// which begins and ends with them.
 #[derive(Drop)]
 pub struct SpansDraft {
     pub opened: bool,
@@ -27,7 +32,8 @@ pub struct SpansDraft {
 }
 
 impl SpansDraft {
-    /// Reads one more line of a map in which these statuses are trusted.
+    /// Reads one more line of a map in which these statuses are trusted. At `Err` the map is given up, and nothing is
+    /// promised of the draft.
     pub fn take(&mut self, line: &[u8], good: &[u8]) -> Result<(), MapStop>
         ensures read { OnOk result (line_read good.now (read_of self.old) (line_fields line.now) ≡ Ok (read_of self.new)) }
         ensures rule { IfErr result (IsStopOf (line_read good.now (read_of self.old) (line_fields line.now))) }
@@ -37,6 +43,7 @@ impl SpansDraft {
         if fields.first.is_empty() {
             return Ok(());
         }
+        // The line of the state is the first with a field, so each later one is a block.
         if self.opened {
             return match map_block(&fields) {
                 Ok(block) => self.add(&block, good),
@@ -70,7 +77,8 @@ impl SpansDraft {
         self.push(block.end, is_among(good, block.status))
     }
 
-    // Adds a span. One goes on from the span before it, so only its end is kept.
+    // Adds a span. One goes on from the span before it, so only its end is kept. The clause `same` is for `take`, which
+    // promises both fields.
     fn push(&mut self, end: u64, rescued: bool) -> Result<(), MapStop>
         ensures read { OnOk result (self.new.spans.items ≡ self.old.spans.items ++ record { end = end; rescued = rescued } ∷ []) }
         ensures same { OnOk result (self.new.opened ≡ self.old.opened) }

@@ -1,4 +1,5 @@
-//! Why a text is no map.
+//! Why a text is no map. The texts are those that the report of `dvdcap mark` has for them. A block here is a line of a
+//! map: bytes one after the other that have one status.
 
 use thiserror::Error;
 

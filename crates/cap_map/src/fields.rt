@@ -1,4 +1,6 @@
-//! Lines, and the fields of a line between blanks. They are slices of the text, so that no memory is taken.
+//! Lines, and the fields of a line between blanks. They are slices of the text, so that no memory is taken. A comment
+//! goes from `#` to the end of its line, also after fields. `draft` asks for the fields, and `map` for the length of a
+//! line. The clauses `bound` are for the callers, which cut the text at a count.
 ghost use Rattle.std.specs.Prelude.{◌≡◌, ◌≤◌, ◌==◌, ◌+◌, not, length};
 ghost use Rattle.cap_map.specs.Fields.{after_field, blanks_of, field_length, first_field, is_blank, line_length, run_of, without_comment};
 ghost use Rattle.cap_map.specs.Inner.{field_bytes};
@@ -30,7 +32,8 @@ pub fn line_fields<'a>(line: &'a [u8]) -> FieldsOf<'a>
     }
 }
 
-// The first field of a text, and what comes after it.
+// The first field of a text, and what comes after it. Where there is none both are empty, so that it may be called once
+// more.
 fn next_field<'a>(text: &'a [u8]) -> (&'a [u8], &'a [u8])
     ensures field { result.0.now ≡ first_field text.now }
     ensures rest { result.1.now ≡ after_field text.now }
@@ -100,7 +103,7 @@ fn bytes_before(text: &[u8], end: u8) -> usize
     count
 }
 
-// A carriage return is one, so that lines may end in it.
+// A carriage return is one, so that lines may end in it. A line feed isn't: no line has one.
 fn is_blank(byte: u8) -> bool
     ensures { result ≡ is_blank byte }
 {

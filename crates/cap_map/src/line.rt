@@ -8,7 +8,8 @@ use crate::fault::MapCause;
 use crate::fields::FieldsOf;
 use crate::number::written_number;
 
-/// A block of a map: the bytes from a position to an end, and their status.
+/// A block of a map: the bytes from a position to an end, and their status. A line has the size in place of the end;
+/// the next block has to begin at the end.
 #[derive(Clone, Copy, Debug, PartialEq, Eq, Drop)]
 pub struct MapBlock {
     pub position: u64,
@@ -28,14 +29,15 @@ pub fn is_state(fields: &FieldsOf<'_>) -> bool
         && fields.fourth.is_empty()
 }
 
+// Whether a field is a number, whatever its value.
 fn is_number(field: &[u8]) -> bool
     ensures { result ≡ is_number field.now }
 {
     written_number(field).is_some()
 }
 
-/// The block that these fields say, or the first rule that they break. They are tried in the order in which `MapCause` has
-/// them.
+/// The block that these fields say, or the first rule that they break. They are tried in the order in which `MapCause`
+/// has them. `Fields` comes first, since a missing field is empty and would be no number or status.
 pub fn map_block(fields: &FieldsOf<'_>) -> Result<MapBlock, MapCause>
     ensures { result ≡ map_block (field_bytes fields.now) }
 {
@@ -49,10 +51,12 @@ pub fn map_block(fields: &FieldsOf<'_>) -> Result<MapBlock, MapCause>
     if !is_one_of(b"?*/-+", fields.third) {
         return Err(MapCause::Status);
     }
+    // It has one byte, as was just tested.
     sized_block(position, size, fields.third[0])
 }
 
-// The block of these numbers, if it has a byte and ends where a file can.
+// The block of these numbers, if it has a byte and ends where a file can: no file is longer than 2^63 - 1 bytes. The
+// clauses `requires` are what `written_number` promises.
 fn sized_block(position: u64, size: u64, status: u8) -> Result<MapBlock, MapCause>
     requires position { position < 2 ^ 63 }
     requires size { size < 2 ^ 63 }
@@ -80,7 +84,7 @@ fn is_one_of(bytes: &[u8], field: &[u8]) -> bool
     field.len() == 1 && is_among(bytes, field[0])
 }
 
-/// Whether a byte is among these.
+/// Whether a byte is among these. `draft` asks it of the statuses that are trusted.
 pub fn is_among(bytes: &[u8], byte: u8) -> bool
     ensures { result ≡ is_among bytes.now byte }
 {

@@ -10,7 +10,9 @@ use crate::span::Span;
 use std::alloc::Global;
 
 /// The spans of a map in which these statuses are trusted, or the first line that breaks a rule. It allocates memory
-/// for the spans, two numbers for each block, and `NoMemory` comes only where there is none.
+/// for the spans, two numbers for each block, and `NoMemory` comes only where there is none. The text is read and not
+/// kept: cap_top has read it whole, and cap_mark gets the spans. `good` has one byte for each status; one that no block
+/// has does nothing. `IsFaultOf` claims nothing of the map at `NoMemory`.
 pub fn read_map(alloc: Global, text: &[u8], good: &[u8]) -> Result<Vec<Span>, MapFault>
     ensures read { IfOk result (λ spans. map_of good.now text.now ≡ Ok spans.items) }
     ensures rule { IfErr result (IsFaultOf (map_of good.now text.now)) }
@@ -20,6 +22,7 @@ pub fn read_map(alloc: Global, text: &[u8], good: &[u8]) -> Result<Vec<Span>, Ma
         spans: Vec::new(alloc),
     };
     let mut rest = text;
+    // Each line has a byte at least, its line feed or another, so that the count fits 64 bits.
     let mut line = 1;
     while !rest.is_empty() {
         let end = line_length(rest);

@@ -1,8 +1,11 @@
-//! Numbers of a map: hexadecimal after 0x, octal after 0, else decimal.
+//! Numbers of a map: hexadecimal after 0x, octal after 0, else decimal. So 0 is octal, and 08 is no number. This is
+//! ddrescue's own rule, that of integer constants in C: it writes hexadecimal, but a map that was edited by hand may
+//! have the others.
 ghost use Rattle.std.specs.Prelude.{◌≡◌, ◌<◌, ◌≤◌, ◌^◌, IfSome};
 ghost use Rattle.cap_map.specs.Numbers.{digits_in, begins_with_0x, written_number, with_digit};
 
-/// The number that a text is. There is none from 2^63 on: no file is longer than 2^63 - 1 bytes.
+/// The number that a text is. There is none from 2^63 on: no file is longer than 2^63 - 1 bytes. `None` is a text that
+/// isn't so written, or a number that is too great: both are one fault of a line.
 pub fn written_number(text: &[u8]) -> Option<u64>
     ensures value { result ≡ written_number text.now }
     ensures below { IfSome result (λ n. n < 2 ^ 63) }
@@ -14,13 +17,16 @@ pub fn written_number(text: &[u8]) -> Option<u64>
     digits_in(text, radix)
 }
 
+// Both letters are accepted. After 0x alone there is no digit, and so no number.
 fn begins_with_0x(text: &[u8]) -> bool
     ensures { result ≡ begins_with_0x text.now }
 {
     text.len() > 1 && text[0] == b'0' && (text[1] == b'x' || text[1] == b'X')
 }
 
-/// The number that digits of a base, from binary to hexadecimal, write: below 2^63, and of one digit at least.
+/// The number that digits of a base, from binary to hexadecimal, write: below 2^63, and of one digit at least. Zeros
+/// may come first. cap_lost reads the numbers of its lines by it too. Callers have the bases 8, 10 and 16; `to_digit`
+/// would take greater ones too.
 pub fn digits_in(text: &[u8], radix: u32) -> Option<u64>
     requires least { 2 ≤ radix }
     requires most { radix ≤ 16 }
@@ -37,7 +43,8 @@ pub fn digits_in(text: &[u8], radix: u32) -> Option<u64>
     Some(value)
 }
 
-// A number with one digit more at its end.
+// A number with one digit more at its end, if it is below 2^63. `to_digit` has letters of both cases. No clause bounds
+// `value`, so that both steps are checked.
 fn with_digit(value: u64, byte: u8, radix: u32) -> Option<u64>
     requires least { 2 ≤ radix }
     requires most { radix ≤ 16 }

@@ -60,6 +60,7 @@ fn spans_of_maps(rt: HostRuntime) -> Result<(), Fail> {
     Ok(())
 }
 
+// A text, the line that breaks a rule, and the rule. `+` alone is trusted.
 static BROKEN: [(&str, u64, MapCause); 26] = [
     ("", 1, MapCause::State),
     ("# only a comment\n", 2, MapCause::State),

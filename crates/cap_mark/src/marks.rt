@@ -1,5 +1,9 @@
 //! The mark bits of a row, and the rows of a recording frame. A map speaks of bytes and a mark is a bit, so that eight
 //! bytes of a capture make one byte of marks.
+//!
+//! A frame has thirteen rows of 182 bytes, and each row gets 23 bytes of marks: 205. A span is a run of bytes of which
+//! the map says one thing. `start` is the number in the capture of a row's first byte, and a place is a number within
+//! the row. The bounds on `start` say that sums with it fit 64 bits.
 ghost use Rattle.std.specs.Prelude.{◌≡◌, ◌<◌, ◌≤◌, ◌+◌, ◌*◌, ◌^◌, ◌++◌, ◌&&◌, [], ◌∷◌, nat_lt, not, length};
 ghost use Rattle.arrayvec.specs.ArrayVec.{array_vec_len};
 ghost use Rattle.cap_mark.specs.Frames.{marked_rows};
@@ -19,7 +23,11 @@ static LOST: [u8; 23] = [
     255, 255, 255, 252,
 ];
 
-/// Puts the thirteen rows of a frame, the first byte of which has this number, each with its marks.
+/// Puts the thirteen rows of a frame, the first byte of which has this number, each with its marks. The bytes are
+/// copied as they came, lost ones too. Spans that end at or before the first byte of a row are passed for all rows
+/// after it: the span of a byte is the first that ends after it, so that these are the span of no byte from there on.
+/// So nothing rests on the order of the spans. Those of `read_map` ascend without a gap from byte 0, so the bytes that
+/// no span has are those after the last: they aren't rescued, and get marks. `frame` and `spans` stay.
 pub fn put_rows(spans: &[Span], start: u64, frame: &[u8; 2366], out: &mut MarkedFrame)
     requires empty { out.old.items ≡ [] }
     requires start { start < 2 ^ 63 }
@@ -34,6 +42,7 @@ pub fn put_rows(spans: &[Span], start: u64, frame: &[u8; 2366], out: &mut Marked
     }
 }
 
+// Puts bytes at the end of the frame.
 fn put(out: &mut MarkedFrame, bytes: &[u8])
     requires { array_vec_len out.old + length bytes.now ≤ 2665 }
     ensures items { out.new.items ≡ out.old.items ++ bytes.now }
@@ -58,7 +67,8 @@ fn put_marks(spans: &[Span], start: u64, out: &mut MarkedFrame)
     }
 }
 
-// Puts the mark bytes of a row of both kinds, one by one.
+// Puts the mark bytes of a row of both kinds, one by one. It is right for any row; `put_marks` calls it for few, since
+// it is slow.
 fn put_mixed(spans: &[Span], start: u64, out: &mut MarkedFrame)
     requires room { array_vec_len out.old + 23 ≤ 2665 }
     requires start { start + 182 < 2 ^ 64 }
@@ -72,12 +82,13 @@ fn put_mixed(spans: &[Span], start: u64, out: &mut MarkedFrame)
     }
 }
 
-// Eight marks from a place of a row on, as bits.
+// Eight marks from a place of a row on, as bits. The last byte begins at place 176, and its last two bits are spare.
 fn mark_byte(spans: &[Span], start: u64, place: u64) -> u8
     requires place { place ≤ 176 }
     requires start { start + 182 < 2 ^ 64 }
     ensures { result ≡ bits_of_marks (is_marked spans.now start) place 8 }
 {
+    // After eight marks it is below 2^8, so nothing is cut.
     let mut byte = 0;
     for k in 0..8 {
         byte = with_mark(byte, is_marked(spans, start, place + k));

@@ -1,4 +1,5 @@
-//! The spans of a map from a byte on, so that the loop doesn't go over a span twice.
+//! The spans of a map from a byte on, so that the loop doesn't go over a span twice. `marking` does so for frames, and
+//! `marks` for rows and bytes.
 ghost use Rattle.std.specs.Prelude.{◌≡◌, ◌<◌, ◌≤◌, ◌+◌, ◌^◌, ℕ, IfSome};
 ghost use Rattle.cap_map.specs.Spans.{is_rescued};
 ghost use Rattle.cap_mark.specs.Walk.{AgreeFrom};
@@ -6,7 +7,7 @@ ghost use Rattle.cap_mark.specs.Walk.{AgreeFrom};
 use cap_map::Span;
 
 /// The spans without those before them that end at or before byte `place`. They say the same from that byte on. The
-/// loop goes up, so that few are passed each time.
+/// loop goes up, so that few are passed each time. They are a part of the same list: nothing is copied.
 pub fn spans_from<'a>(spans: &'a [Span], place: u64) -> &'a [Span]
     ensures { AgreeFrom place result.now spans.now }
 {
@@ -17,7 +18,8 @@ pub fn spans_from<'a>(spans: &'a [Span], place: u64) -> &'a [Span]
     left
 }
 
-/// What a map says of all bytes of a row, if it is one thing and the first of these spans shows it.
+/// What a map says of all bytes of a row, if it is one thing and the first of these spans shows it. `None` promises
+/// nothing, as two spans of a row may say the same: the caller asks byte by byte then.
 pub fn whole_row(spans: &[Span], start: u64) -> Option<bool>
     requires { start + 182 < 2 ^ 64 }
     ensures { IfSome result (λ rescued. (j : ℕ) → j < 182 → is_rescued spans.now (start + j) ≡ rescued) }
@@ -30,7 +32,8 @@ pub fn whole_row(spans: &[Span], start: u64) -> Option<bool>
     }
 }
 
-/// Whether a byte is rescued. A byte after all spans isn't: the map says nothing of it.
+/// Whether a byte is rescued. A byte after all spans isn't: the map says nothing of it. A span begins where the one
+/// before it ends, so the first that ends after the byte has it.
 pub fn is_rescued(spans: &[Span], byte: u64) -> bool
     ensures { result ≡ is_rescued spans.now byte }
 {

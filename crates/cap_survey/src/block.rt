@@ -1,10 +1,14 @@
-//! The line of a block, read part by part in the order in which `dvdecc survey` writes it.
+//! The line of a block, read part by part in the order in which `dvdecc survey` writes it. It is
+//! `block K sector H6 layer L pi P failed F sum8 S: ANSWER`, where `H6` is six hexadecimal digits, and ANSWER is
+//! `whole` or the cause for which the block is refused. A survey writes no sector, so no count of salvaged
+//! frames comes after a cause.
 ghost use Rattle.std.specs.Prelude.{◌≡◌, option_map};
 ghost use Rattle.cap_survey.specs.Lines.{after_sector, block_line, is_address, is_alone, is_cause, is_empty_text, is_found, refused_by};
 
 use crate::number::{after_text, are_hexadecimal, number_after};
 
-/// What the line of a block says. Its numbers are as they came: whether they can be those of a block is asked later.
+/// What the line of a block says. Its numbers are as they came: whether they can be those of a block is asked later, by
+/// `survey`. So they have 64 bits.
 #[derive(Clone, Copy, Debug, PartialEq, Eq, Drop)]
 pub struct BlockLine {
     pub block: u64,
@@ -36,7 +40,7 @@ pub fn block_line(line: &[u8]) -> Option<BlockLine>
 }
 
 // What comes after ` sector ` and its six digits. Where the block is on the disk isn't drawn, so the digits are only
-// tested.
+// tested. They can't be compared: a survey doesn't say its disk's layout.
 fn after_sector<'a>(text: &'a [u8]) -> Option<&'a [u8]>
     ensures { option_map (λ s. s.now) result ≡ after_sector text.now }
 {
@@ -61,7 +65,7 @@ fn refused_by(answer: &[u8]) -> Option<bool>
     }
 }
 
-// Whether there is a text, and nothing in it.
+// Whether there is a text, and nothing in it. So `whole` has to be all of the answer.
 fn is_empty_text(text: Option<&[u8]>) -> bool
     ensures { result ≡ is_empty_text (option_map (λ s. s.now) text.entry) }
 {
@@ -71,7 +75,7 @@ fn is_empty_text(text: Option<&[u8]>) -> bool
     }
 }
 
-// Whether a text is one of the causes for which a block is refused. Which one isn't kept.
+// Whether a text is one of the causes for which a block is refused. Which one isn't kept, so its number may be any.
 fn is_cause(text: &[u8]) -> bool
     ensures { result ≡ is_cause text.now }
 {
@@ -83,7 +87,7 @@ fn is_cause(text: &[u8]) -> bool
         || is_address(text)
 }
 
-// Whether a text is a name and a number.
+// Whether a text is a name and a number, with nothing after it.
 fn is_alone(text: &[u8], name: &[u8]) -> bool
     ensures { result ≡ is_alone name.now text.now }
 {
@@ -93,6 +97,7 @@ fn is_alone(text: &[u8], name: &[u8]) -> bool
     }
 }
 
+// Whether a text is `address N found H8`: a frame, and the ID in it, which is of another place.
 fn is_address(text: &[u8]) -> bool
     ensures { result ≡ is_address text.now }
 {

@@ -1,6 +1,7 @@
 //! What is kept of a block: only what is drawn or counted.
 
-/// The counts in the line of a block. They are as small as they can be, since a survey may have two million blocks.
+/// The counts in the line of a block. They are as small as they can be, since a survey may have two million blocks. A
+/// block has 208 rows, so a count of its rows has 8 bits, and one of eight blocks, at most 1,664, needs 16.
 #[derive(Clone, Copy, Debug, PartialEq, Eq, Drop)]
 pub struct Cell {
     /// The PI error rows of the block and the seven before it.

@@ -1,4 +1,4 @@
-//! Why a text is no survey.
+//! Why a text is no survey. The report of `dvdcap draw` has shorter texts for the causes.
 
 use thiserror::Error;
 
@@ -11,7 +11,7 @@ pub enum SurveyCause {
     /// The block isn't the one after the block of the line before, or the first isn't block 0.
     #[error("not the next block")]
     Order,
-    /// A count is greater than a block can have.
+    /// A block can't be so: its layer is above 1, it has more than 208 PI error rows, or more failed rows than these.
     #[error("too great a count")]
     Range,
     /// `sum8` isn't the sum of `pi` over the block and the seven before it.

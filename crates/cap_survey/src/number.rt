@@ -1,4 +1,6 @@
-//! Texts and numbers at the beginning of a text: the parts of which lines are read.
+//! Texts and numbers at the beginning of a text: the parts of which lines are read. Nothing is passed over, so that
+//! only what `dvdecc` writes is read. `block` and `totals` call these. cap_survey uses no other crate of the
+//! project, so it reads numbers by itself.
 ghost use Rattle.std.specs.Prelude.{◌≡◌, ◌<◌, ◌≤◌, ◌^◌, length, option_map, IfSome};
 ghost use Rattle.std.specs.List.{list_all};
 ghost use Rattle.cap_survey.specs.Numbers.{after_text, are_hexadecimal, digit_count, is_hexadecimal, number_after, leading_number, number_seen, with_digit, with_digits};
@@ -40,6 +42,7 @@ fn leading_number<'a>(text: &'a [u8]) -> Option<Number<'a>>
     })
 }
 
+// How many decimal digits a text begins with.
 fn count_digits(text: &[u8]) -> usize
     ensures count { result ≡ digit_count text.now }
     ensures bound { result ≤ length text.now }
@@ -54,6 +57,7 @@ fn count_digits(text: &[u8]) -> usize
     count
 }
 
+// The number that decimal digits write, if it is below 10^18.
 fn value_of(digits: &[u8]) -> Option<u64>
     ensures { result ≡ with_digits 0 digits.now }
 {
@@ -70,6 +74,7 @@ fn with_digit(value: u64, byte: u8) -> Option<u64>
     ensures value { result ≡ with_digit value byte }
     ensures below { IfSome result (λ n. n < 10 ^ 18) }
 {
+    // The caller has digits alone, so this doesn't fail; the definition is of any byte.
     let digit = char::from(byte).to_digit(10)?;
     let number = 10 * value + u64::from(digit);
     if number < 1_000_000_000_000_000_000 {

@@ -1,4 +1,7 @@
 //! What was read so far of a survey. A line is believed only where it goes on from those before it.
+//!
+//! A survey has a line for each block, from block 0, and a line of totals that closes it. `pi` counts the PI error rows
+//! of a block, `failed` its failed rows, and `sum8` the PI error rows of the block and the seven before it.
 ghost use Rattle.std.specs.Prelude.{◌≡◌, ◌≤◌, ◌+◌, [], length, false, sum_by, Ok, Err, IfOk, IfErr, OnOk, OnErr};
 ghost use Rattle.cap_survey.specs.Survey.{cell_of, last_seven, line_read, next_line, with_block, with_totals};
 ghost use Rattle.cap_survey.specs.Totals.{pi_of};
@@ -11,13 +14,15 @@ use std::alloc::{AllocError, Global};
 use std::marker::Model;
 
 // The most blocks of a survey: more than twice those of the greatest disk. Their memory is taken at once, so that no
-// line ends a run for want of it.
+// line ends a run for want of it. Any number that no disk reaches would do.
 const ROOM: usize = 2_097_152;
 
-// No line of a survey is longer.
+// No line of a survey is longer: numbers have at most 18 digits, with which the line of a block has 178 bytes. Any
+// bound from that up would do; `Reading` keeps as many bytes.
 const LINE: usize = 255;
 
-/// The blocks whose lines were read, and whether the line of totals was. Contracts see it as these two.
+/// The blocks whose lines were read, and whether the line of totals was. Contracts see it as these two. It is public,
+/// since `Reading` lends it.
 #[derive(Drop)]
 pub struct ReadSurvey {
     cells: Vec<Cell>,
@@ -55,6 +60,7 @@ impl ReadSurvey {
         ensures next { OnOk result (next_line self.new ≡ next_line self.old + 1) }
         ensures bound { OnOk result (next_line self.new ≤ 2097154) }
     {
+        // `Reading` gives no longer line, but the rule is one of lines, whoever reads them.
         if line.len() > LINE {
             return Err(SurveyCause::Form);
         }
@@ -62,6 +68,7 @@ impl ReadSurvey {
         if self.closed {
             return Err(SurveyCause::After);
         }
+        // The first word of a line, `block` or `blocks`, says which of the two it is.
         if let Some(block) = block_line(line) {
             return self.add_block(&block);
         }
@@ -71,7 +78,7 @@ impl ReadSurvey {
         }
     }
 
-    // Reads the line of a block.
+    // Reads the line of a block. Where it breaks a rule nothing is added.
     fn add_block(&mut self, block: &BlockLine) -> Result<(), SurveyCause>
         ensures read { OnOk result (with_block self.old block.now ≡ Ok self.new) }
         ensures rule { IfErr result (λ cause. with_block self.old block.now ≡ Err cause) }
@@ -86,7 +93,7 @@ impl ReadSurvey {
         }
     }
 
-    // Reads the line of totals.
+    // Reads the line of totals. It has to be that of the blocks that came, and closes the survey.
     fn add_totals(&mut self, totals: &Totals) -> Result<(), SurveyCause>
         requires { self.old.closed ≡ false }
         ensures read { OnOk result (with_totals self.old totals.now ≡ Ok self.new) }
@@ -102,7 +109,8 @@ impl ReadSurvey {
         Ok(())
     }
 
-    /// The number of the line that comes next, counted from 1.
+    /// The number of the line that comes next, counted from 1. Each line that was read is that of a block or of totals,
+    /// so no count of lines is kept.
     pub fn next_line(&self) -> u64
         ensures { result ≡ next_line self.now }
     {
@@ -117,7 +125,8 @@ impl ReadSurvey {
         &self.cells
     }
 
-    /// Whether the line of totals was read.
+    /// Whether the line of totals was read. Without it the survey is cut: it isn't known how many blocks come after
+    /// these.
     pub fn is_closed(&self) -> bool
         ensures { result ≡ self.now.closed }
     {
@@ -125,7 +134,9 @@ impl ReadSurvey {
     }
 }
 
-// What is kept of a block that comes after these, or the first rule that its line breaks.
+// What is kept of a block that comes after these, or the first rule that its line breaks. Nothing is changed: the
+// caller adds the cell, for which the clause `room` says that there is room. The order of the tests says which rule is
+// named where several are broken, as the definition has them.
 fn cell_of(cells: &[Cell], block: &BlockLine) -> Result<Cell, SurveyCause>
     requires { length cells.now ≤ 2097152 }
     ensures cell { result ≡ cell_of cells.now block.now }
@@ -150,6 +161,7 @@ fn cell_of(cells: &[Cell], block: &BlockLine) -> Result<Cell, SurveyCause>
     if cells.len() == ROOM {
         return Err(SurveyCause::TooMany);
     }
+    // By the tests above `sum8` is at most 208 + 1,785, so that nothing is cut.
     Ok(Cell {
         sum8: sum8 as u16,
         pi: pi as u8,
@@ -159,7 +171,8 @@ fn cell_of(cells: &[Cell], block: &BlockLine) -> Result<Cell, SurveyCause>
     })
 }
 
-// The PI error rows of the last seven blocks. At the beginning there are fewer.
+// The PI error rows of the last seven blocks. At the beginning there are fewer. The bound is seven times the greatest
+// number of 8 bits, since the clauses don't say that a kept count is at most 208.
 fn sum_of_seven(cells: &[Cell]) -> u64
     requires { length cells.now ≤ 2097152 }
     ensures sum { result ≡ sum_by pi_of (last_seven cells.now) }

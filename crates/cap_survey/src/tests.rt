@@ -57,6 +57,7 @@ fn a_survey_in_pieces(rt: HostRuntime) -> Result<(), Fail> {
 #[test]
 fn a_survey_that_is_cut(rt: HostRuntime) -> Result<(), Fail> {
     let mut reading = Reading::new(rt.alloc())?;
+    // Two lines, and six bytes of the third.
     let cut = &WHOLE.as_bytes()[..130];
     reading.take(cut).map_err(|_| 1)?;
     assert!(rt; reading.end() == Ok(6) && reading.survey().cells() == &CELLS[..2]);
@@ -226,6 +227,7 @@ static FAULTS: [(&str, u64, SurveyCause); 33] = [
     ),
 ];
 
+// Tries that what comes after the first block breaks this rule.
 fn breaks(alloc: Global, case: &(&str, u64, SurveyCause)) -> Result<(), Fail> {
     let mut reading = Reading::new(alloc)?;
     reading.take(FIRST.as_bytes()).map_err(|_| 0)?;

@@ -1,4 +1,9 @@
 //! A survey that comes in pieces of any length, put together line by line.
+//!
+//! `reading_on` in the clauses is the result of a survey that has these bytes after those that came. `progress` grows
+//! with each byte and is below 2^30, so that a loop over a survey without end comes to a line that breaks a rule. A
+//! survey has at most 2^21 blocks and a line of totals, so the number of its next line is at most 2,097,154; a line
+//! that has begun has at most 255 bytes. `progress` counts 256 for each line, which is a full line and its line feed.
 ghost use Rattle.std.specs.Prelude.{◌≡◌, ◌<◌, ◌≤◌, ◌+◌, ◌^◌, ℕ, List, [], ◌∷◌, ◌++◌, length, Ok, Err, IfOk, IfErr, OnOk};
 ghost use Rattle.cap_survey.specs.Survey.{fault_of_next, nothing_read, progress, reading_on};
 
@@ -38,7 +43,8 @@ impl Reading {
         })
     }
 
-    /// Reads more bytes, or gives the first line that breaks a rule, whatever follows. No survey has 2^30 bytes.
+    /// Reads more bytes, or gives the first line that breaks a rule, whatever follows. No survey has 2^30 bytes. After
+    /// a fault nothing is promised of the reading.
     pub fn take(&mut self, bytes: &[u8]) -> Result<(), Fault>
         ensures read { OnOk result ((more : List ℕ) → reading_on self.old (bytes.now ++ more) ≡ reading_on self.new more) }
         ensures rule { IfErr result (λ fault. (more : List ℕ) → reading_on self.old (bytes.now ++ more) ≡ Err fault) }
@@ -51,6 +57,7 @@ impl Reading {
         Ok(())
     }
 
+    // Reads a byte: a line feed ends the line that has begun, and any other is kept.
     fn put(&mut self, byte: u8) -> Result<(), Fault>
         ensures read { OnOk result ((more : List ℕ) → reading_on self.old (byte ∷ more) ≡ reading_on self.new more) }
         ensures rule { IfErr result (λ fault. (more : List ℕ) → reading_on self.old (byte ∷ more) ≡ Err fault) }
@@ -68,7 +75,7 @@ impl Reading {
         Ok(())
     }
 
-    // Reads the line that has begun.
+    // Reads the line that has begun, of which all bytes came. Its memory is kept for the next.
     fn end_line(&mut self) -> Result<(), Fault>
         ensures read { OnOk result ((more : List ℕ) → reading_on self.old (10 ∷ more) ≡ reading_on self.new more) }
         ensures rule { IfErr result (λ fault. (more : List ℕ) → reading_on self.old (10 ∷ more) ≡ Err fault) }
@@ -84,7 +91,11 @@ impl Reading {
         }
     }
 
-    /// Ends the text: how many bytes of a last line that is cut there are, or that these break a rule.
+    /// Ends the text, of which no more comes. Answers how many bytes came of a last line without its line feed: 0 where
+    /// the text ends with one. Such a line isn't read, as more of it may be missing. A survey that is cut breaks no
+    /// rule: `dvdcap draw` draws its whole lines, and its closing line `short` says this count. Whether a survey is cut
+    /// is what `is_closed` says, and not the count. After the line of totals nothing may come, so that bytes there
+    /// break a rule.
     pub fn end(&self) -> Result<usize, Fault>
         ensures read { IfOk result (λ left. reading_on self.now [] ≡ Ok (record { read = self.now.read; left = left })) }
         ensures rule { IfErr result (λ fault. reading_on self.now [] ≡ Err fault) }
@@ -107,7 +118,7 @@ impl Reading {
         }
     }
 
-    /// What was read.
+    /// What was read. These are its whole lines: the one that has begun isn't in it.
     pub fn survey(&self) -> &ReadSurvey
         ensures { result.now ≡ self.now.read }
     {

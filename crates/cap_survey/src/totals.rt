@@ -1,4 +1,8 @@
 //! Totals over blocks, and the line of totals. They are counted anew, so that the line can be compared with them.
+//! cap_draw uses these functions too, over the blocks of a column and for its texts.
+//!
+//! The line is `blocks B pi P failed F damaged D peak S at K over O`. A survey has at most 2,097,152 blocks, so that
+//! sums of their counts fit 64 bits.
 ghost use Rattle.std.specs.Prelude.{◌≡◌, ◌≤◌, ◌*◌, ◌==◌, length, sum_by, count_by};
 ghost use Rattle.cap_survey.specs.Lines.{totals_in};
 ghost use Rattle.cap_survey.specs.Totals.{before_first, failed_in_cell, greatest_of, is_over, pi_of, refused_of, sum8_of, totals_of};
@@ -50,7 +54,7 @@ pub fn totals_in(line: &[u8]) -> Option<Totals>
     })
 }
 
-/// The totals over these blocks.
+/// The totals over these blocks. Each is counted by itself, as each has a definition of its own.
 pub fn totals_of(cells: &[Cell]) -> Totals
     requires { length cells.now ≤ 2097152 }
     ensures { result ≡ totals_of cells.now }
@@ -80,6 +84,7 @@ pub fn sum_pi(cells: &[Cell]) -> u64
     sum
 }
 
+// The failed rows of some blocks, all together.
 fn sum_failed(cells: &[Cell]) -> u64
     requires { length cells.now ≤ 2097152 }
     ensures { result ≡ sum_by failed_in_cell cells.now }
@@ -113,6 +118,7 @@ pub fn count_refused(cells: &[Cell]) -> u64
     count
 }
 
+// How many of some blocks have a `sum8` above the limit.
 fn count_over(cells: &[Cell]) -> u64
     ensures { result ≡ count_by is_over cells.now }
 {
@@ -148,7 +154,7 @@ pub fn greatest_failed(cells: &[Cell]) -> u8
     greatest
 }
 
-// The first of some blocks that has this `sum8`; their number where none has.
+// The first of some blocks that has this `sum8`; their number where none has. Of no blocks the peak is 0, at 0.
 fn first_with(cells: &[Cell], sum8: u16) -> u64
     ensures { result ≡ before_first (λ cell. sum8_of cell == sum8) cells.now }
 {

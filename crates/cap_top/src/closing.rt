@@ -1,5 +1,6 @@
 //! The lines of reports that several commands have, and the status that goes with the last. A run whose closing line
-//! fails has the status ReportFault, whatever else it did: silence isn't success.
+//! fails has the status ReportFault, whatever else it did: silence isn't success. The bounds of 20 bytes are within
+//! what a `Line` has room for, 256, and more than any text here has.
 ghost use Rattle.std.specs.Prelude.{◌≡◌, ◌≤◌, codes, length};
 ghost use Rattle.cap_top.specs.Closing.{EndsWith, rule_line, words_line, words_status};
 
@@ -8,7 +9,8 @@ use cap_words::WordsFault;
 use dvd_ports::{Sink, WriteFault, write_whole};
 use dvd_report::Line;
 
-/// Writes the closing line, and answers the status of the run, or `ReportFault` where the line can't be written.
+/// Writes the closing line, and answers the status of the run, or `ReportFault` where the line can't be written, of
+/// which a prefix may have come out.
 pub fn end_with<E: Sink>(status: Status, line: &[u8], report: &mut E) -> Status
     ensures { EndsWith status line.now (E.seen report.old) (E.seen report.new) result }
 {
@@ -18,7 +20,7 @@ pub fn end_with<E: Sink>(status: Status, line: &[u8], report: &mut E) -> Status
     }
 }
 
-/// Reports why arguments aren't read.
+/// Reports why arguments aren't read. It is public for cap_main, which reads them: no command has run then.
 pub fn refuse_words<E: Sink>(fault: WordsFault, report: &mut E) -> Status
     ensures { EndsWith (words_status fault) (words_line fault) (E.seen report.old) (E.seen report.new) result }
 {
@@ -38,7 +40,8 @@ pub fn fixed_line(text: &[u8]) -> Line
     line
 }
 
-/// The line of an input, a line of which breaks a rule.
+/// The line of an input, a line of which breaks a rule: `front` names the input, as `map: line `. No line feed is in
+/// the texts that it gets.
 pub fn rule_line(front: &[u8], number: u64, cause: &[u8]) -> Line
     requires front { length front.now ≤ 20 }
     requires cause { length cause.now ≤ 20 }

@@ -1,5 +1,5 @@
 //! A run of `draw`: a survey in, its picture out. The end of `draw` says all, so that only its status and its line are
-//! made here.
+//! made here. cap_main calls it with the real streams.
 ghost use Rattle.std.specs.Prelude.{◌≡◌, ◌≤◌};
 ghost use Rattle.cap_top.specs.Draw.{Runs, draw_status};
 
@@ -14,7 +14,9 @@ use lines::draw_line;
 use std::alloc::Global;
 
 /// Reads a survey from `src` to its end, and writes its picture to `out`. The report gets one line, which says how the
-/// run ended. All memory is allocated before the first byte of the survey is read.
+/// run ended. All memory is allocated before the first byte of the survey is read. Nothing is written where a read
+/// fails or a line breaks a rule. The equations in the clause are handed to the definition, which states them where a
+/// stream isn't touched.
 pub fn run_draw<S: Source, K: Sink, E: Sink>(
     alloc: Global,
     settings: &DrawSettings,
@@ -32,6 +34,7 @@ pub fn run_draw<S: Source, K: Sink, E: Sink>(
     end_with(draw_status(end), draw_line(end).as_slice(), report)
 }
 
+// A survey that is cut has a status of its own, though its picture is written whole.
 fn draw_status(end: DrawEnd) -> Status
     ensures { result ≡ draw_status end }
 {

@@ -1,4 +1,5 @@
-//! A run of `interleave`: several captures in, their blocks in turn out.
+//! A run of `interleave`: several captures in, their blocks in turn out. cap_main opens the captures and calls it. It
+//! is `IsValid` that the form has blocks of one size, and that only the marked form is filled.
 ghost use Rattle.std.specs.Prelude.{◌≡◌, ◌≤◌, length};
 ghost use Rattle.cap_top.specs.Interleave.{Headline, status_of};
 ghost use Rattle.cap_words.specs.Interleave.{IsValid};
@@ -14,7 +15,10 @@ use lines::closing_line;
 use std::alloc::Global;
 
 /// Writes the blocks of captures in turn to `out`. The report gets one line, which says how the run ended. Memory is
-/// allocated for one block of each capture, before the first byte is read.
+/// allocated for one block of each capture, before the first byte is read. Sixteen captures, as the clause `few` says,
+/// are what the buffers have room for. It is asked besides `valid`, since nothing here ties the captures to the files
+/// that the settings name. However it ends, whole turns are written, but for the last where a write failed. The
+/// equations in the clause are handed to the definition, which states them where a stream isn't touched.
 pub fn run_interleave<S: Source, K: Sink, E: Sink>(
     alloc: Global,
     settings: &InterleaveSettings<'_>,
@@ -37,6 +41,7 @@ pub fn run_interleave<S: Source, K: Sink, E: Sink>(
     }
 }
 
+// The status has no number of a file or a block: the line names these.
 fn status_of(end: InterleaveEnd) -> Status
     ensures { result ≡ status_of end }
 {

@@ -1,4 +1,5 @@
-//! A run of `lost`: a report of `dvdecc` in, a map of the image out.
+//! A run of `lost`: a report of `dvdecc` in, a map of the image out. Two reports are spoken of: the one that is read,
+//! and that of this run, `report`. cap_main calls it with the real streams.
 ghost use Rattle.std.specs.Prelude.{◌≡◌};
 ghost use Rattle.cap_top.specs.Closing.{EndsWith};
 ghost use Rattle.cap_top.specs.Lost.{Headline, HasRunByLayout, line_by, refusal_status, status_by};
@@ -18,7 +19,9 @@ use std::alloc::Global;
 
 /// Reads the report of a run of `dvdecc` from `src`, line by line, and then writes the map of its image to `out`. The
 /// report of this run gets one line, which says how it ended. Memory is allocated for the extents of lost sectors
-/// alone, and nothing is written before the last line was read.
+/// alone, and nothing is written before the last line was read. A layout that breaks a rule ends the run before
+/// anything is read. The equations in the clause are handed to the definition, which states them where a stream isn't
+/// touched.
 pub fn run_lost<S: Source, K: Sink, E: Sink>(
     alloc: Global,
     settings: &LostSettings,
@@ -36,7 +39,8 @@ pub fn run_lost<S: Source, K: Sink, E: Sink>(
     }
 }
 
-// Likewise for a layout that breaks no rule.
+// Likewise for a layout that breaks no rule. The number of all image sectors goes to the map, since it names those that
+// weren't written too.
 fn map_image<S: Source, K: Sink, E: Sink>(
     alloc: Global,
     layout: Layout,
@@ -60,7 +64,7 @@ fn map_image<S: Source, K: Sink, E: Sink>(
     }
 }
 
-// Says whether the map was written.
+// Says whether the map was written. It is whole also where the run of `dvdecc` stopped, so that this run is done.
 fn end_map<E: Sink>(answer: Result<(), WriteFault>, report: &mut E) -> Status
     ensures { EndsWith (status_by answer) (line_by answer) (E.seen report.old) (E.seen report.new) result }
 {
@@ -70,6 +74,7 @@ fn end_map<E: Sink>(answer: Result<(), WriteFault>, report: &mut E) -> Status
     }
 }
 
+// Why the report isn't read, as a status. Nothing was written.
 fn refusal_status(fault: ReportFault) -> Status
     ensures { result ≡ refusal_status fault }
 {

@@ -1,4 +1,5 @@
-//! A run of `mark`: a map and a plain capture in, the capture in the marked form out.
+//! A run of `mark`: a map and a plain capture in, the capture in the marked form out. cap_main opens the map and calls
+//! it. The name of the map in the settings isn't used here.
 ghost use Rattle.std.specs.Prelude.{◌≡◌};
 ghost use Rattle.cap_top.specs.Mark.{Headline};
 ghost use Rattle.cap_top.specs.Mark.Statuses.{refusal_status, status_of};
@@ -18,7 +19,8 @@ use opening::{MapRefusal, open_map};
 use std::alloc::Global;
 
 /// Reads the map whole, then the capture from `src`, and writes it to `out` in the marked form. The report gets one
-/// line, which says how the run ended. Memory is allocated for the map alone, before the first byte of the capture.
+/// line, which says how the run ended. Memory is allocated for the map alone, before the first byte of the capture. The
+/// equations in the clause are handed to the definition, which states them where a stream isn't touched.
 pub fn run_mark<M: Source, S: Source, K: Sink, E: Sink>(
     alloc: Global,
     settings: &MarkSettings<'_>,
@@ -34,6 +36,7 @@ pub fn run_mark<M: Source, S: Source, K: Sink, E: Sink>(
     match open_map(alloc, settings.good.as_bytes(), map) {
         Ok(spans) => {
             let end = mark_loop(&spans, src, out);
+            // `close` writes the line as `end_with` does; its clauses go on from those of the loop.
             status_of(close(end, closing_line(end).as_slice(), report))
         }
         Err(refusal) => end_with(
@@ -44,7 +47,8 @@ pub fn run_mark<M: Source, S: Source, K: Sink, E: Sink>(
     }
 }
 
-// A capture may end after any frame: an end within one of which no byte came is no fault.
+// A capture may end after any frame: an end within one of which no byte came is no fault. The other ends are that the
+// report failed, and those that no run of `mark` has.
 fn status_of(end: LoopEnd) -> Status
     ensures { result ≡ status_of end }
 {
@@ -58,6 +62,7 @@ fn status_of(end: LoopEnd) -> Status
     }
 }
 
+// Why the run doesn't begin, as a status. Nothing was read of the capture.
 fn refusal_status(refusal: MapRefusal) -> Status
     ensures { result ≡ refusal_status refusal }
 {

@@ -2,7 +2,7 @@
 ghost use Rattle.std.specs.Prelude.{◌≡◌};
 
 /// The exit statuses of the program, with the numbers that `dvdecc` has for them. 7 is missing, since no command here
-/// refuses blocks.
+/// refuses blocks. The numbers are documented, so a status keeps its own.
 #[derive(Clone, Copy, Debug, PartialEq, Eq)]
 pub enum Status {
     /// The command ran to its end.
@@ -15,7 +15,7 @@ pub enum Status {
     ReadFault = 3,
     /// A write failed.
     WriteFault = 4,
-    /// The capture ended within a unit.
+    /// The capture ended within a unit, or the survey before its line of totals.
     Short = 5,
     /// The capture has more units than 32 bits count. `interleave` ends at that number, and reads no further.
     Long = 6,

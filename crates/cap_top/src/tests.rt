@@ -1,4 +1,6 @@
-//! Runs over memory: what is written and reported, and how a fault of each stream ends.
+//! Runs over memory: what is written and reported, and how a fault of each stream ends. A `MemSource` is made of its
+//! bytes, of how many a call gives at most, and of the numbers of the calls that fail, counted from 0; a `MemSink` of
+//! its room, and then likewise. Numbers of nines are more than a case comes to.
 ghost use Rattle.std.specs.Prelude.{◌≡◌};
 ghost use Rattle.arrayvec.specs.ArrayVec.{array_vec_len};
 
@@ -29,8 +31,8 @@ fn wanted(alloc: Global) -> Result<Vec<u8>, Fail> {
     Ok(bytes)
 }
 
-// A run over a capture of `capture` sevens. Each read gives at most a hundred, and the output has room for `room`
-// bytes.
+// A run over a capture of `capture` sevens. Each read gives at most a hundred, so that a frame takes 24, and the output
+// has room for `room` bytes.
 struct Case {
     capture: usize,
     broken_read: u64,
@@ -107,6 +109,7 @@ static CASES: [Case; 7] = [
     },
 ];
 
+// Tries a run of `mark` over the map above. What is written is a prefix of what a whole run writes.
 fn runs(alloc: Global, case: &Case) -> Result<(), Fail> {
     let capture = vec![in alloc; 7u8; case.capture]?;
     let mut src = MemSource::new(capture, 100, vec![in alloc; case.broken_read; 1]?);
@@ -139,7 +142,8 @@ fn frames_are_marked_and_faults_are_named(rt: HostRuntime) -> Result<(), Fail> {
     Ok(())
 }
 
-// A run whose map gives no spans: nothing is read of the capture, and nothing is written.
+// A run whose map gives no spans: nothing is read of the capture, and nothing is written. A read of a hundred bytes at
+// last shows that the capture is where it was.
 fn is_refused<M: Source>(
     alloc: Global,
     map: &mut M,
@@ -182,9 +186,9 @@ fn maps_that_give_no_spans(rt: HostRuntime) -> Result<(), Fail> {
 
 // The lengths of two plain captures of sevens, the failing call of the second, and the status, the line and the length
 // of the output.
-type UnitCommand = (usize, usize, u64, Status, &'static [u8], usize);
+type InterleaveCase = (usize, usize, u64, Status, &'static [u8], usize);
 
-static TURNS: [UnitCommand; 6] = [
+static INTERLEAVE_CASES: [InterleaveCase; 6] = [
     (37_856, 37_856, 9, Status::Done, b"done\n", 75_712),
     (0, 0, 9, Status::Done, b"done\n", 0),
     (
@@ -221,7 +225,8 @@ static TURNS: [UnitCommand; 6] = [
     ),
 ];
 
-fn takes_units(alloc: Global, case: &UnitCommand) -> Result<(), Fail> {
+// Tries a run of `interleave` over two captures. Their names aren't used: files are opened before.
+fn takes_units(alloc: Global, case: &InterleaveCase) -> Result<(), Fail> {
     let mut captures = Vec::new(alloc);
     captures.push(MemSource::new(vec![in alloc; 7u8; case.0]?, 40_000, Vec::new(alloc)))?;
     captures.push(MemSource::new(
@@ -254,7 +259,7 @@ fn two_names<'a>() -> ArrayVec<&'a str, 16>
 
 #[test]
 fn blocks_take_turns_and_files_are_named(rt: HostRuntime) -> Result<(), Fail> {
-    for case in &TURNS {
+    for case in &INTERLEAVE_CASES {
         takes_units(rt.alloc(), case)?;
     }
     Ok(())

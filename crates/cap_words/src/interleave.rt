@@ -1,4 +1,6 @@
-//! The values of `interleave`. The files are only named here: they are opened by `main`.
+//! The values of `interleave`. The files are only named here: they are opened by `main`. `None` is a usage error: a
+//! value that isn't of its form, or values that don't go together. In the clauses `rows_of` are the options that clap
+//! finds, with their values.
 ghost use Rattle.std.specs.Prelude.{◌≡◌, codes, map, option_map, IfSome};
 ghost use Rattle.clap.specs.Words.{all_of, found_of, rows_of};
 ghost use Rattle.cap_words.specs.Interleave.{IsValid, few_files, files_in, form_in, interleave_asked, interleave_of, is_flag_given, may_fill};
@@ -42,14 +44,14 @@ fn may_fill(form: Form, fill: bool) -> bool
     form == Form::Marked || !fill
 }
 
-// clap gives each flag a value, which is a text like others.
+// clap gives each flag a value, which is a text like others: `true` where the flag is given.
 fn is_flag_given(matches: &ArgMatches<'_>, name: &str) -> bool
     ensures { result ≡ is_flag_given name.now (rows_of (found_of matches.now)) }
 {
     given(matches, name) == Some("true")
 }
 
-// From 2 to 16 files.
+// From 2 to 16 files, in the order of the arguments. They are borrowed from these, so no memory is taken.
 fn files_in<'a>(matches: &ArgMatches<'a>) -> Option<ArrayVec<&'a str, 16>>
     ensures { option_map (λ files. map (λ file. file.now) files.items) result ≡ files_in (rows_of (found_of matches.now)) }
 {

@@ -1,5 +1,6 @@
 //! The values of `lost`. They are those of `dvdecc recover`, read by the same functions, so that the same words mean
-//! one layout.
+//! one layout. In the clauses `rows_of` are the options that clap finds, with their values. `unfolding` is for the
+//! checker: it opens a definition that a clause names.
 ghost use Rattle.std.specs.Prelude.{◌≡◌};
 ghost use Rattle.clap.specs.Words.{found_of, rows_of};
 ghost use Rattle.cap_words.specs.Lost.{lost_of};
@@ -8,7 +9,8 @@ use crate::settings::LostSettings;
 use clap::ArgMatches;
 use dvd_words::{given, read_number, read_shape, read_zones};
 
-/// Each option by its form.
+/// Each option by its form. The defaults are those of `dvdecc`. Whether the numbers make a layout is asked later, by
+/// `LostSettings::layout`, since that has a line and a status of its own.
 #[tactic(auto, unfolding(crate::specs::Lost::lost_of))]
 pub fn lost_settings(matches: &ArgMatches<'_>) -> Option<LostSettings>
     ensures { result ≡ lost_of (rows_of (found_of matches.now)) }

@@ -1,4 +1,5 @@
-//! The values of `mark`. A file is opened by `main`: here its name is a text.
+//! The values of `mark`. A file is opened by `main`: here its name is a text. In the clauses `rows_of` are the options
+//! that clap finds, with their values.
 ghost use Rattle.std.specs.Prelude.{◌≡◌, option_map};
 ghost use Rattle.std.specs.List.{list_all};
 ghost use Rattle.clap.specs.Words.{found_of, rows_of};
@@ -8,7 +9,7 @@ use crate::settings::MarkSettings;
 use clap::ArgMatches;
 use dvd_words::given;
 
-/// Each option by its form.
+/// Each option by its form. clap has refused arguments without `--map`. `None` is a usage error.
 pub fn mark_settings<'a>(matches: &ArgMatches<'a>) -> Option<MarkSettings<'a>>
     ensures { option_map mark_asked result ≡ mark_command_of (rows_of (found_of matches.now)) }
 {
@@ -29,12 +30,14 @@ fn good_in<'a>(text: Option<&'a str>) -> Option<&'a str>
     }
 }
 
+// Some statuses, each that of a block. One that is given twice does no harm.
 fn is_good(text: &[u8]) -> bool
     ensures { result ≡ is_good text.now }
 {
     !text.is_empty() && are_statuses(text)
 }
 
+// Whether each byte is the status of a block.
 fn are_statuses(text: &[u8]) -> bool
     ensures { result ≡ list_all is_good_status text.now }
 {

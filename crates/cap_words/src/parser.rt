@@ -1,5 +1,6 @@
 //! The clap command of each command. Values are texts to clap, and the module of their command reads them by their
-//! forms.
+//! forms. An app in the clauses is what a command of clap is by definition, and rows are the options that clap finds,
+//! with their values.
 ghost use Rattle.std.specs.Prelude.{◌≡◌, None, Some, IfOk, map, string_bytes};
 ghost use Rattle.clap.specs.Words.{app_of, found_of, rows_of, with_rule};
 ghost use Rattle.cap_words.specs.Apps.{app_for, bare_app, file_rule, flag_rule, with_options};
@@ -22,7 +23,9 @@ pub fn parse<'a>(
     parse_by(parser_for(alloc, command)?, words)
 }
 
-// Each command has its own parser, so that an option of another one is refused.
+// Each command has its own parser, so that an option of another one is refused. `true` is an option that has to be
+// given; the modules of the commands have the defaults of others. Only memory can fail here; `?` in `parse` makes
+// `WordsFault::NoMemory` of it.
 fn parser_for<'a>(alloc: Global, command: Command) -> Result<clap::Command<'a>, AllocError>
     ensures { IfOk result (λ parser. app_of parser ≡ app_for command) }
 {
@@ -66,7 +69,7 @@ fn with_options<'a>(
     Ok(parser)
 }
 
-// The command with one more option, which has no value.
+// The command with one more option, which has no value. clap refuses a flag that is given twice, or with a value.
 fn with_flag<'a>(
     alloc: Global,
     parser: clap::Command<'a>,

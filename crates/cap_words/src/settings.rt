@@ -1,10 +1,11 @@
-//! What the arguments of a command line ask for. The commands share few options, so that each has its own struct.
+//! What the arguments of a command line ask for. The commands share few options, so that each has its own struct. The
+//! modules of the commands make them, and cap_top runs by them.
 
 use arrayvec::ArrayVec;
 use dvd_capture::Form;
 use dvd_layout::{Layout, LayoutFault, Shape, Zones};
 
-/// The commands of the program.
+/// The commands of the program. The first argument says which; by it a parser is chosen, before any option is read.
 #[derive(Clone, Copy, Debug, PartialEq, Eq)]
 pub enum Command {
     /// A plain capture gets the marks of a ddrescue map.
@@ -72,7 +73,8 @@ impl LostSettings {
     ghost use Rattle.std.specs.Prelude.{◌≡◌, None, Some, IsOk, IfErr, IfOk};
     ghost use Rattle.cap_words.specs.Lost.{IsLayoutOf, broken_rule};
 
-    /// The layout of these lengths, or the first rule that they break.
+    /// The layout of these lengths, or the first rule that they break. It isn't made with the settings: a rule that is
+    /// broken has a line of its own, and isn't a usage error.
     pub fn layout(&self) -> Result<Layout, LayoutFault>
         ensures lengths { IfOk result (IsLayoutOf self.now) }
         ensures valid { IsOk result → broken_rule self.now ≡ None }

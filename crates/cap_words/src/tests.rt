@@ -5,6 +5,7 @@ use dvd_layout::{Shape, Zones};
 use std::alloc::{AllocError, Global};
 use std::test::Fail;
 
+// A text as arguments, one for each of its words.
 fn words(alloc: Global, text: &str) -> Result<Vec<String>, AllocError> {
     let mut words = Vec::new(alloc);
     for word in text.split_whitespace() {
@@ -191,6 +192,7 @@ static TWO_LAYERS: LostSettings = LostSettings {
     tail: 4,
 };
 
+// What `lost` is asked for, or `None` where the arguments ask for something else or for nothing.
 fn asks(alloc: Global, text: &str) -> Result<Option<LostSettings>, Fail> {
     let words = words(alloc, text)?;
     match read(alloc, &words) {

@@ -1,5 +1,6 @@
 //! Reads the arguments of the command line: the word of the command, its options by clap, and their values. Whatever is
-//! wrong is one usage error, so `None` says enough.
+//! wrong is one usage error, so `None` says enough. In the clauses `rows_of` are the options that clap finds, with
+//! their values. `unfolding` is for the checker: it opens a definition that a clause names.
 ghost use Rattle.std.specs.Prelude.{◌≡◌, None, IfOk, IfSome, map, option_map, string_bytes};
 ghost use Rattle.clap.specs.Words.{found_of, rows_of};
 ghost use Rattle.cap_words.specs.Reading.{Asks, AreValid, asked_by, command_of, reading, settings_of};
@@ -14,7 +15,8 @@ use clap::ArgMatches;
 use dvd_words::WordsFault;
 use std::alloc::Global;
 
-/// The settings that the arguments ask for. `NoMemory` comes only where there is no memory to read them with.
+/// The settings that the arguments ask for. `NoMemory` comes only where there is no memory to read them with. The
+/// settings borrow their texts from the arguments, so these have to live as long.
 #[tactic(auto, unfolding(crate::specs::Reading::reading))]
 pub fn read<'a>(alloc: Global, words: &'a [String]) -> Result<Settings<'a>, WordsFault>
     ensures read { IfOk result (Asks (map string_bytes words.now)) }
@@ -32,6 +34,7 @@ pub fn read<'a>(alloc: Global, words: &'a [String]) -> Result<Settings<'a>, Word
     settings(command, &matches).ok_or(WordsFault::Usage)
 }
 
+// The command of a word, which is the first argument. It is read before clap is called, which reads its options alone.
 fn command_named(word: &str) -> Option<Command>
     ensures { result ≡ command_of word.now }
 {
@@ -44,7 +47,7 @@ fn command_named(word: &str) -> Option<Command>
     }
 }
 
-// Each option by its form.
+// Each option by its form, by the module of the command.
 fn settings<'a>(command: Command, matches: &ArgMatches<'a>) -> Option<Settings<'a>>
     ensures value { option_map asked_by result ≡ settings_of command (rows_of (found_of matches.now)) }
     ensures valid { IfSome result AreValid }

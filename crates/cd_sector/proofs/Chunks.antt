@@ -1,5 +1,5 @@
--- Sixteen bytes read into the register at once: what is left of each, with the register's own bytes added to the first four, is
--- added up.
+-- Sixteen bytes read into the register at once: what is left of each, with the register's own bytes added to the first
+-- four, is added up.
 use Rattle.std.proofs.Common.{◌≡◌, ℕ, zero, suc, ◌+◌, ◌*◌, ◌/◌, ◌%◌, ◌^◌, ◌<◌, ◌≤◌, List, [], ◌∷◌, ◌++◌, length, get_or, take, drop, refl, sym, ◌∙◌, ap, ap₂, append_assoc, zero-add, add-one, arith}
 use Rattle.std.specs.Prelude.{bit_xor}
 use Rattle.std.specs.Int.{to_le_bytes, w32}

@@ -1,5 +1,6 @@
--- Right words are repaired to themselves: the codeword near one is itself (near_right, near_plain), so nothing is changed
--- (kept_p, kept_q), also of a sector whose words are all right (all_kept). The sync is no matter (sync_right, parity_cause).
+-- Right words are repaired to themselves: the codeword near one is itself (near_right, near_plain), so nothing is
+-- changed (kept_p, kept_q), also of a sector whose words are all right (all_kept). The sync is no matter (sync_right,
+-- parity_cause).
 use Rattle.std.proofs.Common.{◌≡◌, ℕ, zero, suc, ◌+◌, ◌-◌, ◌<◌, ◌≤◌, List, ◌++◌, drop, length, get_or, set, Bool, false, refl, sym, ◌∙◌, ap, ap₂, subst, add-one, arith, true≢false, Option, Some, None}
 use Rattle.std.specs.Prelude.{replicate}
 use Rattle.std.specs.Option.{is_none, is_some}

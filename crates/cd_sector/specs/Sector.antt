@@ -23,7 +23,8 @@ covered address user = sync ++ header address ++ 0x01 ∷ user
 unfoldable pub data_part : ℕ → List ℕ → List ℕ
 data_part address user = covered address user ++ cd_edc_of (covered address user) ++ replicate 8 0
 
--- The sector of an address below 450,000 and of 2,048 bytes user data. The code sets the P words 32 at once, then the Q words.
+-- The sector of an address below 450,000 and of 2,048 bytes user data. The code sets the P words 32 at once, then the Q
+-- words.
 pub record IsSector (address : ℕ) (user sector : List ℕ) : Type 0 where
   pub size : length sector ≡ 2352
   pub begins : take 2076 sector ≡ data_part address user

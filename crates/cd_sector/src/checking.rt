@@ -14,7 +14,7 @@ use thiserror::Error;
 #[derive(Clone, Copy, Debug, PartialEq, Eq, Error)]
 pub enum CdCause {
     /// Not all words are codewords, and `word` is the least number of one that isn't: P words are 0 to 85, Q words 86
-    /// to 137.
+    /// to 137. Eight bits would hold it too.
     #[error("parity {word}")]
     Parity { word: u16 },
     /// Another mode than 1.
@@ -30,7 +30,8 @@ pub enum CdCause {
 
 /// Checks that all words of a sector are codewords, its mode is 1, its address is `address`, and its EDC is right.
 /// Returns the first of these that fails as the cause. The sync isn't checked, and the EDC is tested as if the right
-/// sync were there.
+/// sync were there. Addresses are below 450,000, as those of `make` are.
+/// It is for the C library: `cdread` repairs a sector, and that checks it.
 pub fn check(sector: &[u8; 2352], address: u32) -> Result<(), CdCause>
     requires { address < 450000 }
     ensures right { OnOk result (IsRightSector sector.now address) }
@@ -62,12 +63,12 @@ pub(crate) fn check_contents(sector: &[u8; 2352], address: u32) -> Result<(), Cd
     Ok(())
 }
 
-/// The least word that isn't a codeword.
+/// The least word that isn't a codeword, if there is one.
 pub(crate) fn first_wrong_word(sector: &[u8; 2352]) -> Option<u16>
     ensures some { IfSome result (λ word. (word < 138) × (IsRight sector.now word → ⊥) × AreRightBelow word sector.now) }
     ensures none { result ≡ None → AreRightBelow 138 sector.now }
 {
-    // P words have the lower numbers.
+    // P words have the lower numbers. The Q words are gathered and tested only where no P word is wrong.
     if let Some(word) = first_fault(&p_faults(sector)) {
         return Some(word as u16);
     }
@@ -89,7 +90,8 @@ fn first_fault(faults: &[u8]) -> Option<usize>
     None
 }
 
-// Whether minute, second and frame are those of an address.
+// Whether minute, second and frame are those of an address. The bytes are compared, since one that was read need be no
+// two decimal digits.
 fn has_header(sector: &[u8; 2352], address: u32) -> bool
     requires { address < 450000 }
     ensures { IsTrue result ↔ (found_header sector.now ≡ header_of address) }

@@ -1,5 +1,7 @@
 //! Columns of bytes as words with two parity bytes, 32 columns at once. A word is a codeword where its values at 1 and
-//! at alpha are 0.
+//! at alpha are 0. W is the length of the rows, so there are W words: 86 P words or 52 Q words. A vector has 32 lanes,
+//! a byte for each column; alpha is 2. What has vectors is inlined, so that these needn't pass through memory. Clauses
+//! `size` repeat the length that a type has, for the proofs of callers.
 ghost use Rattle.std.specs.Prelude.{◌≡◌, ◌↔◌, ℕ, ◌+◌, ◌<◌, ◌≤◌, [], ◌∷◌, ◌++◌, length, slice_index, All};
 ghost use Rattle.coding.specs.Field.{alpha, plus, product};
 ghost use Rattle.coding.specs.Words.{IsByte, IsCodeword, value};
@@ -9,7 +11,8 @@ ghost use Rattle.rs_lanes.specs.Inner.Lanes.{HasLanes};
 use rs_lanes::{any_of, load, multiple, store, with_multiple};
 use std::simd::prelude::*;
 
-/// A byte for each column, which is 0 exactly where the column is a codeword.
+/// A byte for each column, which is 0 exactly where the column is a codeword. Any other byte says no more than that it
+/// isn't: it is the OR of the two values.
 pub(crate) fn faults<const W: usize>(rows: &[[u8; W]]) -> [u8; W]
     requires { 32 ≤ W }
     ensures size { length result ≡ W }
@@ -42,7 +45,8 @@ pub(crate) fn parity<const W: usize>(rows: &[[u8; W]]) -> [[u8; W]; 2]
     [first, second]
 }
 
-// Sets the bytes of the 32 columns from `at` on. All before them stay.
+// Sets the bytes of the 32 columns from `at` on. All before them stay; of those after nothing is said, since groups are
+// set from the first on.
 #[inline(always)]
 fn put_faults<const W: usize>(rows: &[[u8; W]], at: usize, faults: &mut [u8; W])
     requires { at + 32 ≤ W }
@@ -54,7 +58,7 @@ fn put_faults<const W: usize>(rows: &[[u8; W]], at: usize, faults: &mut [u8; W])
     store(any_of(&values_at(rows, at)), faults, at);
 }
 
-// Sets the parity of the 32 columns from `at` on. All before it stays.
+// Sets the parity of the 32 columns from `at` on. All before it stays, and nothing is said of what comes after.
 #[inline(always)]
 fn put_parity<const W: usize>(
     rows: &[[u8; W]],
@@ -73,13 +77,15 @@ fn put_parity<const W: usize>(
 {
     let [sum, value] = values_at(rows, at);
     // The two parity bytes add up to the sum of the column, and 3 times the first is this sum plus 4 times the value at
-    // alpha. In the field 1/3 is 0xF4, and 4/3 is 0xF7.
+    // alpha: before two more bytes the column's value counts alpha^2 times, the first of them counts alpha times, and
+    // the second is the sum plus the first. In the field 1/3 is 0xF4, and 4/3 is 0xF7.
     let lanes = with_multiple(multiple(sum, 0xF4), value, 0xF7);
     store(lanes, first, at);
     store(lanes ^ sum, second, at);
 }
 
-// The values at 1 and at alpha of the 32 columns from `at` on. Also ensures that the columns are bytes.
+// The values at 1 and at alpha of the 32 columns from `at` on, the sum being the value at 1. Also ensures that the
+// columns are bytes, which a codeword has to be, and which the checker has from loading them into vectors.
 #[inline(always)]
 fn values_at<const W: usize>(rows: &[[u8; W]], at: usize) -> [u8x32; 2]
     requires { at + 32 ≤ W }

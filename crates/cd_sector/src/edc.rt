@@ -1,4 +1,7 @@
-//! The code of a sector that detects errors, the EDC (ECMA-130, 14.3).
+//! The code of a sector that detects errors, the EDC (ECMA-130, 14.3). The register is what dividing all bytes before
+//! has left. The least significant bit of a byte comes first, so the register has its highest power in its lowest bit:
+//! a step shifts it down, and the byte that leaves is the lowest one. In contracts `after_steps n` is a register after
+//! n steps, of a bit each, and `after_reading` one after bytes, by eight steps for each.
 ghost use Rattle.std.specs.Prelude.{◌≡◌, ◌++◌, bit_xor};
 ghost use Rattle.std.specs.List.{concat};
 ghost use Rattle.cd_sector.specs.Edc.{cd_edc_of};
@@ -9,7 +12,7 @@ use crate::table::{
 };
 
 /// The EDC of a list of bytes of any length: the remainder of its bits, the least significant of each byte first,
-/// by (x^16 + x^15 + x^2 + 1) (x^16 + x^2 + x + 1).
+/// by (x^16 + x^15 + x^2 + 1) (x^16 + x^2 + x + 1). It is public for the C library.
 pub fn cd_edc(bytes: &[u8]) -> [u8; 4]
     ensures { result ≡ cd_edc_of bytes.now }
 {

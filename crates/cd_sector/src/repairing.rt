@@ -1,4 +1,6 @@
-//! A sector that was read, repaired.
+//! A sector that was read, repaired. In contracts `with_p_words sector n` is a sector with its first n P words
+//! repaired, and `with_q_words read sector n` likewise for Q words, whose marks are by `read`, the sector as it was
+//! read. Clauses `size` repeat the length that a type has, for the proofs of callers.
 ghost use Rattle.std.specs.Prelude.{◌≡◌, ℕ, List, ◌+◌, ◌-◌, ◌<◌, ◌≤◌, length, drop, false, slice_index_or, IfErr, IfOk, OnErr, OnOk, IfSome, None};
 ghost use Rattle.std.specs.Option.{is_none};
 ghost use Rattle.coding.specs.Distance.{distance};
@@ -30,6 +32,7 @@ pub fn repair(sector: &mut [u8; 2352], address: u32) -> Result<u16, CdCause>
     if let Some(word) = repair_words(&mut fixed) {
         return Err(CdCause::Parity { word });
     }
+    // No word has the sync in it, so it is set and not repaired.
     fixed[..12].copy_from_slice(&SYNC);
     check_contents(&fixed, address)?;
     let changes = count_changes(sector, &fixed);
@@ -50,11 +53,13 @@ fn repair_words(sector: &mut [u8; 2352]) -> Option<u16>
     }
     let lost = repair_p_words(sector);
     repair_q_words(&lost, sector);
+    // All are tested again: a Q word that was repaired may have broken a P word.
     first_wrong_word(sector)
 }
 
 // Repairs the P words, and returns which of them are lost: those with no codeword near them. P words have no byte in
-// common: all are tested first, and none that is repaired changes another.
+// common: all are tested first, and none that is repaired changes another. Nothing is marked yet: a P word is repaired
+// where one byte of it is wrong.
 fn repair_p_words(sector: &mut [u8; 2352]) -> [bool; 86]
     ensures words { sector.new ≡ with_p_words sector.old 86 }
     ensures size { length sector.new ≡ 2352 }
@@ -73,7 +78,7 @@ fn repair_p_words(sector: &mut [u8; 2352]) -> [bool; 86]
 }
 
 // Repairs the Q words, in which bytes of lost P words are marked. They are tested after the P words are repaired. They
-// have no byte in common either.
+// have no byte in common either. A Q word with no codeword near it stays: the test of all words then finds it.
 fn repair_q_words(lost: &[bool; 86], sector: &mut [u8; 2352])
     ensures words { (read : List ℕ) → ((word : ℕ) → word < 86 → slice_index_or lost.now word false ≡ is_lost read word) → sector.new ≡ with_q_words read sector.old 52 }
     ensures size { length sector.new ≡ 2352 }
@@ -87,7 +92,8 @@ fn repair_q_words(lost: &[bool; 86], sector: &mut [u8; 2352])
     }
 }
 
-// The marks of a Q word: its bytes in lost P words. Its two parity bytes are in no P word.
+// The marks of a Q word: its bytes in lost P words. Its two parity bytes are in no P word. The P words begin at byte
+// 12, and the bytes of each are 86 apart: so the place of a byte less 12 has the number of its P word as remainder.
 fn marks(lost: &[bool; 86], word: usize) -> [bool; 45]
     requires q_word { 86 ≤ word }
     requires word { word < 138 }
@@ -100,8 +106,9 @@ fn marks(lost: &[bool; 86], word: usize) -> [bool; 45]
     marks
 }
 
-// Sets a word to the codeword near it. Returns whether there is none. It is gathered into an array and written back,
-// since its bytes are far from each other.
+// Sets a word to the codeword near it. Returns whether there is none; the sector is then unchanged. It is gathered into
+// an array and written back, since its bytes are far from each other. N is 26 for a P word and 45 for a Q word. What
+// was corrected is dropped: `repair` counts the changes of the whole sector.
 fn repair_word<const N: usize>(
     code: &Code<N, 2>,
     word: usize,

@@ -1,5 +1,7 @@
 //! The words of a sector as the columns of rows: a row has the m-th bytes of all P words, or of all Q words, in order.
-//! Columns of rows are tested and encoded 32 at once.
+//! Columns of rows are tested and encoded 32 at once. P words have 26 bytes, so 26 rows of 86; Q words have 45, so 45
+//! rows of 52. Bytes 12 to 2247 are the rows of P words, 2,236 bytes; all but the parity of a Q word is among these
+//! too. Clauses `size` repeat the length that a type has, for the proofs of callers.
 ghost use Rattle.std.specs.Prelude.{◌≡◌, ◌↔◌, ℕ, ◌+◌, ◌*◌, ◌/◌, ◌%◌, ◌<◌, length, slice_index};
 ghost use Rattle.coding.specs.Rows.{place};
 ghost use Rattle.cd_sector.specs.Words.{sector_place, IsRight};
@@ -39,6 +41,7 @@ pub(crate) fn q_rows(sector: &[u8; 2352]) -> [[u8; 52]; 45]
 {
     let covered = covered_twice(sector);
     let mut rows = [[0; 52]; 45];
+    // A diagonal goes down one row of 86 bytes and two bytes further for each place of its words, 88 in all.
     for m in 0..43 {
         put_diagonals(&covered, 88 * m % 2236, &mut rows[m]);
     }
@@ -48,7 +51,8 @@ pub(crate) fn q_rows(sector: &[u8; 2352]) -> [[u8; 52]; 45]
 }
 
 // The bytes that the Q words cover, twice one after the other, so that a diagonal that leaves the first copy at its end
-// goes on in the second.
+// goes on in the second. So no place needs a remainder. This and the next are inlined into `q_rows`, their one caller;
+// no proof rests on that.
 #[inline(always)]
 fn covered_twice(sector: &[u8; 2352]) -> [u8; 4472]
     ensures { (at : ℕ) → at < 4472 → slice_index result at ≡ slice_index sector.now (12 + at % 2236) }
@@ -59,7 +63,8 @@ fn covered_twice(sector: &[u8; 2352]) -> [u8; 4472]
     covered
 }
 
-// Sets one pair of each diagonal: the first is at `from`, and each other 86 bytes after the one before.
+// Sets one pair of each diagonal: the first is at `from`, and each other 86 bytes after the one before. There are 26, a
+// word of low bytes and one of high bytes to each. The last place is below 2,236 + 2,152, within the two copies.
 #[inline(always)]
 fn put_diagonals(covered: &[u8; 4472], from: usize, row: &mut [u8; 52])
     requires { from < 2236 }

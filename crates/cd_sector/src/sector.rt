@@ -1,4 +1,4 @@
-//! A whole sector (ECMA-130, 14).
+//! A whole sector (ECMA-130, 14). Clauses `size` repeat the length that a type has, for the proofs of callers.
 ghost use Rattle.std.specs.Prelude.{◌≡◌, ℕ, ◌+◌, ◌<◌, ◌≤◌, ◌++◌, length, take, slice_index};
 ghost use Rattle.cd_sector.specs.Sector.{digits as digits_of, header as header_of, data_part, IsSector};
 ghost use Rattle.cd_sector.specs.Words.{IsRight};
@@ -14,7 +14,8 @@ pub(crate) const SYNC: [u8; 12] = [
 
 /// Writes the sector of an address: sync, header, mode, user data, EDC and eight zeros, then the P and Q parity of all
 /// but the sync. An address counts frames: its minute, second and frame are `address / 4500`, `address / 75 % 60` and
-/// `address % 75`.
+/// `address % 75`. The minute has two decimal digits, and 450,000 frames are a hundred minutes. All of `out` is
+/// written.
 pub fn make(address: u32, user: &[u8; 2048], out: &mut [u8; 2352])
     requires { address < 450000 }
     ensures { IsSector address user.now out.new }
@@ -37,7 +38,7 @@ pub(crate) fn header(address: u32) -> [u8; 3]
     ]
 }
 
-// Two decimal digits, of four bits each.
+// Two decimal digits, of four bits each, as the standard has them.
 fn digits(number: u32) -> u8
     requires { number < 100 }
     ensures { result ≡ digits_of number }
@@ -45,7 +46,8 @@ fn digits(number: u32) -> u8
     (16 * (number / 10) + number % 10) as u8
 }
 
-// Writes all that comes before the parity.
+// Writes all that comes before the parity, bytes 0 to 2075. The parts are put from the first on, since `put` keeps only
+// what comes before a part.
 fn set_data(address: u32, user: &[u8; 2048], out: &mut [u8; 2352])
     requires { address < 450000 }
     ensures front { take 2076 out.new ≡ data_part address user.now }
@@ -61,7 +63,7 @@ fn set_data(address: u32, user: &[u8; 2048], out: &mut [u8; 2352])
     put(out, 2068, &[0; 8]);
 }
 
-/// Writes a part after the first `at` bytes, which stay.
+/// Writes a part after the first `at` bytes, which stay. The contract says nothing of what comes after it.
 pub(crate) fn put(out: &mut [u8], at: usize, part: &[u8])
     requires { at + length part.now ≤ length out.old }
     ensures { take (at + length part.now) out.new ≡ take at out.old ++ part.now }
@@ -69,7 +71,7 @@ pub(crate) fn put(out: &mut [u8], at: usize, part: &[u8])
     out[at..at + part.len()].copy_from_slice(part);
 }
 
-// Sets the parity of each P word.
+// Sets the parity of each P word. All that comes before stays; the Q parity is set later.
 fn set_p_words(sector: &mut [u8; 2352])
     ensures right { (word : ℕ) → word < 86 → IsRight sector.new word }
     ensures kept { (at : ℕ) → at < 2076 → slice_index sector.new at ≡ slice_index sector.old at }
@@ -81,7 +83,7 @@ fn set_p_words(sector: &mut [u8; 2352])
     put(sector, 2162, &second);
 }
 
-// Sets the parity of each Q word.
+// Sets the parity of each Q word. All else stays, so that the P words do.
 fn set_q_words(sector: &mut [u8; 2352])
     ensures right { (word : ℕ) → 86 ≤ word → word < 138 → IsRight sector.new word }
     ensures kept { (at : ℕ) → at < 2248 → slice_index sector.new at ≡ slice_index sector.old at }

@@ -1,8 +1,11 @@
-//! Division for the EDC (ECMA-130, 14.3), a byte or sixteen at once.
+//! Division for the EDC (ECMA-130, 14.3), a byte or sixteen at once. Of sixteen bytes each has a table of its own, by
+//! the steps that follow it, so that no look-up waits for another. In contracts `after_steps n` is what n steps leave,
+//! and `after_word n` what is left of four bytes with n steps for the last.
 ghost use Rattle.std.specs.Prelude.{◌≡◌, ℕ};
 ghost use Rattle.cd_sector.specs.Inner.Register.{after_steps, after_word, table_after, tables_from};
 
-// The sums of all choices of numbers, in the order of the bytes whose bits choose them.
+// The sums of all choices of numbers, in the order of the bytes whose bits choose them: the first number for b0, and so
+// on. So eight numbers, those of the bytes 1, 2, 4 to 128, make a table of 256.
 macro_rules! sums {
     ([$($sum:expr),*]) => { [$($sum),*] };
     ([$($sum:expr),*] $number:literal $($more:literal)*) => {
@@ -19,7 +22,8 @@ static NEAR: [[u32; 256]; 4] = [
     sums!([0] 0x41000001 0x82000002 0xB4030007 0xD805000D 0x00090019 0x00120032 0x00240064 0x004800C8),
 ];
 
-// Likewise for 40 to 64 steps (`THIRD`), 72 to 96 (`SECOND`) and 104 to 128 (`FIRST`).
+// Likewise for 40 to 64 steps (`THIRD`), 72 to 96 (`SECOND`) and 104 to 128 (`FIRST`): of four words the first has
+// most.
 static THIRD: [[u32; 256]; 4] = [
     sums!([0] 0x90D00101 0x91A30201 0x93450401 0x96890801 0x9D111001 0x8A212001 0xA4414001 0xF8818001),
     sums!([0] 0x9001D100 0x9000A203 0x90024405 0x90078809 0x900C1011 0x901B2021 0x90354041 0x90698081),
@@ -76,7 +80,8 @@ pub(crate) fn remainder_of_first(word: [u8; 4]) -> u32
     remainder_by(&FIRST, word)
 }
 
-// What is left of four bytes, by the tables of four steps of eight.
+// What is left of four bytes, by the tables of four steps of eight. The first byte has the most steps, so it has the
+// last table.
 fn remainder_by(tables: &[[u32; 256]; 4], word: [u8; 4]) -> u32
     ensures { (n : ℕ) → tables.now ≡ tables_from n → result ≡ after_word n word }
 {
@@ -85,7 +90,8 @@ fn remainder_by(tables: &[[u32; 256]; 4], word: [u8; 4]) -> u32
     front ^ back
 }
 
-// An entry of a table of what a fixed number of steps leave of each byte.
+// An entry of a table of what a fixed number of steps leave of each byte. Its contract is of any such table, and each
+// caller proves that its own is one.
 fn entry(table: &[u32; 256], byte: u8) -> u32
     ensures { (n : ℕ) → table.now ≡ table_after n → result ≡ after_steps n byte }
 {

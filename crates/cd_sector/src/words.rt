@@ -1,5 +1,6 @@
 //! The words of a sector that correct its errors (ECMA-130, annex A): 86 of P parity and 52 of Q parity, each of which
-//! ends with two bytes of its own.
+//! ends with two bytes of its own. Bytes 12 to 2351 are pairs of a low and a high byte, which are coded apart: words of
+//! even number have low bytes, and the next number has the high bytes of the same pairs.
 ghost use Rattle.std.specs.Prelude.{◌≡◌, ◌≢◌, ◌↔◌, ℕ, ◌+◌, ◌-◌, ◌<◌, ◌≤◌, length, slice_index, EachIndex, IsTrue, IfSome, None};
 ghost use Rattle.cd_sector.specs.Words.{sector_place, word_size, IsRight};
 
@@ -17,7 +18,7 @@ pub(crate) type PWord = Code<26, 2>;
 /// The code of a Q word.
 pub(crate) type QWord = Code<45, 2>;
 
-/// Fills `bytes` with the first bytes of a word.
+/// Fills `bytes` with the first bytes of a word, as many as there is room for.
 pub(crate) fn read_word(sector: &[u8; 2352], word: usize, bytes: &mut [u8])
     requires word { word < 138 }
     requires size { length bytes.old ≤ word_size word }
@@ -29,7 +30,9 @@ pub(crate) fn read_word(sector: &[u8; 2352], word: usize, bytes: &mut [u8])
 }
 
 /// The place in the sector of byte `m` of a word. A P word goes down a column of rows of 86 bytes. A Q word goes down a
-/// diagonal: one row and two bytes further for each place, round the end. Its parity follows after all of these.
+/// diagonal: one row and two bytes further for each place, round the end. Its parity follows after all of these. The
+/// rows begin at byte 12, after the sync, and 26 of them have 2,236 bytes; 43 is the number of a Q word's bytes before
+/// parity.
 pub(crate) fn place(word: usize, m: usize) -> usize
     requires word { word < 138 }
     requires byte { m < word_size word }

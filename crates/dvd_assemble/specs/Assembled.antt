@@ -18,8 +18,8 @@ use Rattle.dvd_assemble.specs.Home.{home}
 abbrev pub frame_row : Frame → ℕ → List Place
 frame_row frame q = seen_row (line frame.rows q) (marks_line frame.marks q)
 
--- ECMA-267, 19: what a captured frame says of a block whose recording frame f it is. Of the block's 208 recorded rows those
--- from 13f on are the frame's: its rows 12f to 12f + 11, and after them row 192 + f.
+-- ECMA-267, 19: what a captured frame says of a block whose recording frame f it is. Of the block's 208 recorded rows
+-- those from 13f on are the frame's: its rows 12f to 12f + 11, and after them row 192 + f.
 unfoldable pub frame_table : ℕ → Frame → Table
 frame_table f frame =
     map (λ i. if record_at i / 13 == f then frame_row frame (record_at i % 13) else replicate 182 Unseen) (range_with_len 0 208)
@@ -36,7 +36,8 @@ told_of layout k frame = option_map_or (table_for k frame) (home layout frame) u
 unfoldable pub assembled : Layout → List Frame → List Table
 assembled layout frames = map (λ k. joined (map (told_of layout k) frames)) (range_with_len 0 (length (plan_of layout DataOnly)))
 
--- Ours: a block with a captured frame joined to it as its recording frame f: thirteen rows, place by place. The others stay.
+-- Ours: a block with a captured frame joined to it as its recording frame f: thirteen rows, place by place. The others
+-- stay.
 unfoldable pub with_frame : ℕ → Frame → Table → Table
 with_frame f frame table =
     map (λ i. if record_at i / 13 == f then join_rows (known_row table i) (frame_row frame (record_at i % 13)) else known_row table i) (range_with_len 0 208)

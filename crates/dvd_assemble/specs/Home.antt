@@ -1,5 +1,5 @@
--- The home of a captured recording frame: the block of the data zone, and the frame of it, that its first row names. The
--- definitions look through all frames of the zone; the code computes the one place from the sector number.
+-- The home of a captured recording frame: the block of the data zone, and the frame of it, that its first row names.
+-- The definitions look through all frames of the zone; the code computes the one place from the sector number.
 use Rattle.std.specs.Prelude.{ℕ, ◌+◌, ◌/◌, ◌%◌, Bool, List, map, take, position, if◌then◌else◌, Some, None}
 use Rattle.std.specs.List.{flat_map, range_with_len}
 use Rattle.std.specs.Option.{option_and_then}

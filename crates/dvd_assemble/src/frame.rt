@@ -23,7 +23,7 @@ const ROW: usize = 182;
 
 const MARK_BYTES: usize = 23;
 
-// The bytes of a frame in the form that has most. A buffer of this size serves both forms.
+// The bytes of a frame in the form that has most, the marked one: 2,665. A buffer of this size serves both forms.
 const MOST: usize = 13 * (ROW + MARK_BYTES);
 
 /// A captured recording frame: thirteen rows of 182 bytes, and 23 bytes of mark bits for each.
@@ -47,7 +47,8 @@ impl FrameWork {
         }
     }
 
-    // Sets all rows and their marks to those in these bytes.
+    // Sets all rows and their marks to those in these bytes. Nothing of an earlier frame stays: in the plain form,
+    // which has no marks, all are cleared.
     fn put(&mut self, form: Form, bytes: &[u8])
         requires { length bytes.now ≡ frame_size form }
         ensures { captured self.new ≡ frame_in form bytes.now }
@@ -75,7 +76,7 @@ impl FrameWork {
     }
 
     // Joins the frame into a block as its recording frame `f`. Its rows go to where the order of recording has them,
-    // the last among the rows of outer parity.
+    // the last among the rows of outer parity. The block's other rows stay, and so does this frame.
     pub(crate) fn join_into(&self, f: usize, merge: &mut Merge)
         requires { f < 16 }
         ensures { table_of merge.new ≡ with_frame f (captured self.now) (table_of merge.old) }
@@ -98,7 +99,8 @@ fn put_row(row: &mut [u8; ROW], marks: &mut RowMarks, form: Form, bytes: &[u8])
 
 /// Reads one recording frame, by as many calls as it takes: 2,366 bytes in the plain form, 2,665 in the marked form. It
 /// is `End` where the source ended before the first, and `Short` where it ended within. One that isn't whole leaves the
-/// frame as it was. Marks of these forms break no rule (`no_rule`).
+/// frame as it was. Marks of these forms break no rule (`no_rule`). The listed form is left out (`HasSize`): its units
+/// are whole blocks, whose sizes differ. `tactic` names a lemma: where fewer bytes came, the last read met the end.
 #[tactic(auto, using(dvd_capture::proofs::FetchedCounts::cut_counts))]
 pub fn fetch_frame<S: Source>(src: &mut S, form: Form, frame: &mut FrameWork) -> FetchAnswer
     requires { HasSize form }
@@ -115,6 +117,7 @@ pub fn fetch_frame<S: Source>(src: &mut S, form: Form, frame: &mut FrameWork) ->
     // As many bytes as the form has, so that none of the next frame is read.
     let bytes = &mut buffer[..size];
     match read_whole(src, bytes) {
+        // `End` where there is none, and else `Short`.
         Ok(count) if count < size => cut_off(count),
         Ok(_) => {
             // Only whole frames come here, so that a cut one leaves what was there.

@@ -19,7 +19,7 @@ use rs_code::Pi;
 use rs_decode::decode;
 
 /// The block of the data zone and the recording frame of it that the first row of a captured frame names, if it names
-/// one.
+/// one. At most 1,024 blocks are allowed, so that the number of one has room in 16 bits.
 pub(crate) fn home_of(layout: &Layout, frame: &FrameWork) -> Option<(u16, u8)>
     requires { length (plan_of layout.now DataOnly) ≤ 1024 }
     ensures home { result ≡ option_map block_and_frame (home layout.now (captured frame.now)) }
@@ -55,7 +55,7 @@ fn codeword_near(row: &[u8; 182], marks: &RowMarks) -> Option<[u8; 182]>
     }
 }
 
-// Likewise for any row.
+// Likewise for any row. A copy is decoded: a frame is joined to its block as it was received.
 fn decoded(code: &Pi, row: &[u8; 182], marks: &RowMarks) -> Option<[u8; 182]>
     ensures { result ≡ near_of 182 10 row.now (marks_of_row marks.now) }
 {
@@ -68,7 +68,7 @@ fn decoded(code: &Pi, row: &[u8; 182], marks: &RowMarks) -> Option<[u8; 182]>
 
 // The block and the frame that have the place of this ID. The layer gives the first block that may have it, and the
 // sectors after that block's first one give the block. Only then is the whole ID compared with the plan's. The
-// definition looks through all frames of the zone; no other one than this can have the ID.
+// definition looks through all frames of the zone, up to 16,384; no other one than this can have the ID.
 fn home_of_id(layout: &Layout, id: Id) -> Option<(u16, u8)>
     requires { length (plan_of layout.now DataOnly) ≤ 1024 }
     ensures home { result ≡ option_map block_and_frame (home_in layout.now id) }
@@ -82,7 +82,9 @@ fn home_of_id(layout: &Layout, id: Id) -> Option<(u16, u8)>
         return None;
     }
     let first = layout.plan(Zones::DataOnly, before).first;
-    // An ID before the first sector of that block names no frame of the layer.
+    // An ID before the first sector of that block names no frame of the layer. From there on each block of a layer has
+    // the next sixteen numbers, so the difference gives both block and frame, whether or not `first` is a multiple of
+    // 16.
     let behind = id.number().checked_sub(first)?;
     let k = before + u64::from(behind / 16);
     let f = behind % 16;
@@ -93,7 +95,8 @@ fn home_of_id(layout: &Layout, id: Id) -> Option<(u16, u8)>
     }
 }
 
-// How many blocks come before those of a layer.
+// How many blocks come before those of a layer: for layer 1 those of layer 0. On two layers these are full, by a rule
+// of layouts. On one layer the last may be padded, and is counted too, so that no block is left for layer 1.
 fn blocks_before(layout: &Layout, layer: u8) -> u64
     ensures { result ≡ (if layer == 0 then 0 else blocks_of layout.now.sectors0) }
 {
@@ -105,7 +108,7 @@ fn blocks_before(layout: &Layout, layer: u8) -> u64
 }
 
 // Whether frame `f` of block `k` has the place of this ID. The sector number alone isn't enough: area and layer have to
-// be right too.
+// be right too. b29 isn't compared, so that an ID is found whatever its reflectivity bit is.
 fn has_frame(layout: &Layout, k: u64, f: usize, id: Id) -> bool
     requires block { k < length (plan_of layout.now DataOnly) }
     requires frame { f < 16 }

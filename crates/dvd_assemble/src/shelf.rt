@@ -17,8 +17,8 @@ use dvd_merge::Merge;
 use dvd_ports::NoMemory;
 use std::alloc::Global;
 
-/// What scattered frames said of the blocks of a data zone, up to 1,024: 75,712 bytes for each. They hold 16,384
-/// sectors, the most that `assemble` allows.
+/// What scattered frames said of the blocks of a data zone, up to 1,024: 75,712 bytes for each, two for each place.
+/// They hold 16,384 sectors, the most that `assemble` allows, since all are in memory at once: 77 million bytes.
 #[derive(Drop)]
 pub struct Shelf {
     blocks: Vec<Merge>,
@@ -45,7 +45,8 @@ impl Shelf {
 
     /// Joins a captured frame to its home, and answers that: the block, and the frame of it. Where a frame has none
     /// nothing changes. It takes one row's decoding, and the frame's bytes. At a wrong place a frame would spoil
-    /// another, so one without a home is put nowhere.
+    /// another, so one without a home is put nowhere. The shelf has as many blocks as the layout's Data Zone, so that a
+    /// home is one of them.
     pub fn settle(&mut self, layout: &Layout, frame: &FrameWork) -> Option<(u16, u8)>
         requires { length (tables_of self.old) ≡ length (plan_of layout.now DataOnly) }
         ensures home { result ≡ option_map block_and_frame (home layout.now (captured frame.now)) }
@@ -63,7 +64,7 @@ impl Shelf {
         self.blocks.len() as u16
     }
 
-    /// What is known of block `k`.
+    /// What is known of block `k`, lent so that it can be written.
     pub fn merged(&self, k: u16) -> &Merge
         requires { k < length (tables_of self.now) }
         ensures { table_of result.now ≡ slice_index_or (tables_of self.now) k unseen }

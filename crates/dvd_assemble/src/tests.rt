@@ -31,7 +31,8 @@ const FIRST_ROWS: [([u8; 6], [u8; 10]); 4] = [
 
 const HOMES: [Option<(u16, u8)>; 4] = [Some((0, 1)), Some((2, 15)), Some((2, 15)), None];
 
-// Byte j of row q of a frame, of which this is the first row.
+// Byte j of row q of a frame, of which this is the first row. The remainders by 13 and 182 change neither number of a
+// frame: they bound what no contract bounds.
 fn byte_at(first: &([u8; 6], [u8; 10]), q: usize, j: usize) -> u8 {
     if q > 0 {
         ((7 * (q % 13) + j % 182) % 256) as u8
@@ -44,7 +45,8 @@ fn byte_at(first: &([u8; 6], [u8; 10]), q: usize, j: usize) -> u8 {
     }
 }
 
-// The frame in the marked form. In each row places 8 to 15 are marked, and hold a wrong byte.
+// The frame in the marked form. In each row places 8 to 15 are marked, and hold a wrong byte: eight erasures, which the
+// ten parity bytes of the first row correct.
 fn marked_frame(alloc: Global, first: &([u8; 6], [u8; 10])) -> Result<Vec<u8>, AllocError> {
     let mut bytes = Vec::new(alloc);
     for q in 0..13usize {
@@ -71,6 +73,9 @@ fn frames_come_home(rt: HostRuntime) -> Result<(), Fail> {
         assert!(rt; u64::from(shelf.blocks()) == layout.blocks(Zones::DataOnly));
         assert_eq!(rt; shelf.settle(&layout, &frame), home);
     }
+    // What is then known. Of block 0 frame 1 came: rows 12 to 23 and row 193, which is its row of outer parity. Places
+    // 8 to 15 were marked. Of block 2 frame 15 came twice: rows 180 to 191 and row 207. The first byte of its ID
+    // differs, by b29. Nothing came of block 1, and the frame after block 2 is put nowhere.
     let places = [
         (0, 12, 3, Place::Value(0x01)),
         (0, 12, 8, Place::Unseen),
@@ -95,6 +100,8 @@ fn frames_come_home(rt: HostRuntime) -> Result<(), Fail> {
 #[test]
 fn frames_are_fetched_whole(rt: HostRuntime) -> Result<(), Fail> {
     let alloc = rt.alloc();
+    // How many bytes there are, and what is answered in the plain form, of 2,366 bytes a frame, and in the marked one,
+    // of 2,665.
     let cut: [(usize, FetchAnswer, FetchAnswer); 4] = [
         (0, FetchAnswer::End, FetchAnswer::End),
         (
@@ -113,6 +120,7 @@ fn frames_are_fetched_whole(rt: HostRuntime) -> Result<(), Fail> {
             assert!(rt; (frame == FrameWork::new()) == (answer != FetchAnswer::Full));
         }
     }
+    // Of calls of 1,000 bytes the third fails.
     let mut failing = Vec::new(alloc);
     failing.push(2)?;
     let mut source = MemSource::new(vec![in alloc; 1; 2366]?, 1000, failing);
@@ -138,6 +146,7 @@ fn frame_with(alloc: Global, at: usize, byte: u8) -> Result<FrameWork, Fail> {
 
 #[test]
 fn frames_are_alike_in_rows_and_marks(rt: HostRuntime) -> Result<(), Fail> {
+    // The mark bits of the first row begin at byte 182, with that of its first place.
     let row = frame_with(rt.alloc(), 0, 1)?;
     let mark = frame_with(rt.alloc(), 182, 0x80)?;
     assert!(rt; frame_with(rt.alloc(), 0, 0)? == FrameWork::new());

@@ -1,5 +1,6 @@
 -- The values of all rows of a block at one point are a combination of its columns. So they are a codeword where the
--- columns are. As many rows as a column has parity bytes vanish wherever all others do: those of outer parity, or marked ones.
+-- columns are. As many rows as a column has parity bytes vanish wherever all others do: those of outer parity, or
+-- marked ones.
 use Rattle.std.proofs.Common.{◌≡◌, ℕ, zero, suc, ◌+◌, ◌-◌, ◌<◌, ◌≤◌, Bool, true, false, List, [], ◌∷◌, length, map, get_or, drop, All, replicate, refl, sym, ◌∙◌, ap, subst, arith}
 use Rattle.std.specs.Prelude.{◌==◌, if◌then◌else◌}
 use Rattle.std.proofs.lemmas.List.{get_or-map, length-map, length-replicate, get_or-replicate}

@@ -1,4 +1,5 @@
-//! A block: its frames, its parity, its rows as they are recorded.
+//! A block: its frames, its parity, its rows as they are recorded. It has 208 rows of 182 bytes: rows 12f to 12f+11 are
+//! frame f and the inner parity of its rows, and rows 192 to 207 are outer parity.
 ghost use Rattle.std.specs.Prelude.{◌≡◌, ℕ, ◌+◌, ◌*◌, ◌/◌, ◌<◌, ◌≤◌, ◌⊎◌, ◌↔◌, IsTrue, ◌++◌, length, take, drop, IfOk, replicate, slice_index, EachIndex};
 ghost use Rattle.dvd_ports.specs.Whole.{IsWritten};
 ghost use Rattle.coding.specs.Product.{line, place};
@@ -38,7 +39,7 @@ impl Block {
         })
     }
 
-    /// Row `i`.
+    /// Row `i`. Only tests call it; whoever writes or reads many rows has them by `lines`.
     pub fn row(&self, i: usize) -> &[u8; 182]
         requires { i < 208 }
         ensures { result.now ≡ line (block_rows self.now) i }
@@ -57,7 +58,8 @@ impl Block {
         put_rows(&mut self.lines.rows_mut()[12 * f..12 * f + 12], frame);
     }
 
-    /// Writes frame `f`: places 0 to 171 of rows 12f to 12f+11.
+    /// Writes frame `f`: places 0 to 171 of rows 12f to 12f+11. Commands read frames from captured rows, so that only
+    /// tests call this, as they do `is_product` below.
     pub fn get_frame(&self, f: usize, out: &mut [u8; 2064])
         requires { f < 16 }
         ensures { HoldsFrame f out.new (block_rows self.now) }
@@ -65,13 +67,15 @@ impl Block {
         get_rows(&self.lines.rows()[12 * f..12 * f + 12], out);
     }
 
-    /// Sets the inner and the outer parity: places 172 to 181 of all rows, and rows 192 to 207. The bytes of the frames stay, and
-    /// the cells are zeros at the end.
+    /// Sets the inner and the outer parity: places 172 to 181 of all rows, and rows 192 to 207. The bytes of the frames
+    /// stay, and the cells are zeros at the end.
     pub fn add_parity(&mut self)
         ensures parity { IsParityAdded (block_rows self.old) (block_rows self.new) }
         ensures cells { cells_all self.new.cells ≡ replicate 182 (replicate 16 0) }
     {
         fill_parity(self.lines.rows_mut());
+        // This used no cell. `add_parity_par` of dvd_par does, and ensures the same: what cells had doesn't last, so
+        // that a caller may use either.
         self.cells.clear();
     }
 
@@ -90,7 +94,8 @@ impl Block {
     }
 
     /// Sets place j of row 192+t to byte t of cell j, for all t below 16 and j below 182. All else stays. The cells
-    /// have it by columns, as it was computed, and the rows need it by rows.
+    /// have it by columns, as it was computed, and the rows need it by rows. It is for dvd_par, where several workers
+    /// fill the cells. `sizes` says what the type does: the prover doesn't know the length of an array in a list.
     pub fn place_parity(&mut self)
         ensures placed { (t j : ℕ) → t < 16 → j < 182 → place (block_rows self.new) (192 + t) j ≡ place (cells_all self.old.cells) j t }
         ensures sizes { (t : ℕ) → t < 16 → length (line (block_rows self.new) (192 + t)) ≡ 182 }
@@ -101,13 +106,14 @@ impl Block {
     }
 }
 
-/// Writes 208 rows as the sixteen recording frames in order, 37,856 bytes in one piece. After a fault a prefix of them was
-/// taken.
+/// Writes 208 rows as the sixteen recording frames in order, 37,856 bytes in one piece. After a fault a prefix of them
+/// was taken.
 pub fn write_rows<K: Sink>(rows: &[[u8; 182]], out: &mut K) -> Result<(), WriteFault>
     requires { length rows.now ≡ 208 }
     ensures { IsWritten (recording rows.now) (K.seen out.old) (K.seen out.new) result }
 {
-    // The rows are gathered, so that a block is one write where the sink accepts it whole.
+    // The rows are gathered, so that a block is one write where the sink accepts it whole. It is a function of rows,
+    // and no method, since captured rows are in another buffer.
     let mut bytes = [0; RECORDING];
     record_rows(rows, &mut bytes);
     write_whole(out, &bytes)
@@ -144,7 +150,7 @@ fn put_rows(rows: &mut [[u8; 182]], frame: &[u8; 2064])
     }
 }
 
-// Sets the first 172 bytes of a row. Its parity stays.
+// Sets the first 172 bytes of a row. Its ten bytes of parity stay.
 fn put_front(row: &mut [u8; 182], front: &[u8])
     requires { length front.now ≡ 172 }
     ensures { row.new ≡ front.now ++ drop 172 row.old }

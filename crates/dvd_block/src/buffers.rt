@@ -1,6 +1,8 @@
 //! The buffers of a block.
-//! They are on the heap, since what lasts as long as a run doesn't belong on the stack. They are lent one by one, so that
-//! rows and cells can be worked on at once.
+//! They are on the heap, since what lasts as long as a run doesn't belong on the stack. They are lent one by one, so
+//! that rows and cells can be worked on at once. A clause `writes_back` says of a loan that the buffer is afterwards
+//! what was written through it, and as long as it was. Memory fails in one way, so a failure has nothing but its name.
+//! A ghost field `size` takes no memory: it is a fact of each value, public for proofs of the crates above.
 ghost use Rattle.std.specs.Prelude.{◌≡◌, length, vec_len, IfOk, replicate};
 
 use dvd_ports::NoMemory;
@@ -14,7 +16,8 @@ pub struct Lines {
 }
 
 /// A cell of 16 bytes for each of the 182 columns, for its outer parity while it is computed; 2,912 bytes in sum. So
-/// rows can be read while columns are encoded, and the rows of outer parity are set afterwards.
+/// rows can be read while columns are encoded, and the rows of outer parity are set afterwards. Several workers fill
+/// them, each a piece; one alone writes the rows at once, by `Block::add_parity`.
 #[derive(Drop)]
 pub struct Cells {
     cells: Vec<[u8; 16]>,

@@ -3,7 +3,7 @@ ghost use Rattle.std.specs.Prelude.{◌≡◌, ◌<◌};
 ghost use Rattle.coding.specs.Recording.{row_at, record_at};
 
 /// The row of the block that is recorded row `m`. Each thirteenth is one of rows 192 to 207, in their order. Any other
-/// is row `m` less the number of parity rows recorded before it.
+/// is row `m` less the number of parity rows recorded before it. It is public for the crates that read recorded rows.
 pub fn row_of_record(m: usize) -> usize
     requires { m < 208 }
     ensures value { result ≡ row_at m }
@@ -17,7 +17,8 @@ pub fn row_of_record(m: usize) -> usize
     }
 }
 
-/// The recorded row that row `i` of the block is. It undoes `row_of_record`.
+/// The recorded row that row `i` of the block is. It undoes `row_of_record`. Only tests call it: the code that reads
+/// and writes recordings goes by recorded rows.
 pub fn record_of_row(i: usize) -> usize
     requires { i < 208 }
     ensures value { result ≡ record_at i }

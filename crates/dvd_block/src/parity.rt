@@ -1,5 +1,7 @@
 //! The parity of rows and columns (ECMA-267, 18): ten bytes of inner parity (PI) end a row, sixteen of outer
-//! parity (PO) end a column.
+//! parity (PO) end a column. Where many are encoded or tested, vectors of 32 bytes do it for 32 at once: each row, or
+//! each column, has a lane, its byte in each vector. A word is a codeword where its values at all roots of its code are
+//! 0.
 ghost use Rattle.std.specs.Prelude.{◌≡◌, ℕ, ◌+◌, ◌<◌, ◌≤◌, ◌++◌, length, take, slice_index, EachIndex, All, ◌↔◌, IsTrue};
 ghost use Rattle.coding.specs.Words.{IsCodeword, IsEncoded};
 ghost use Rattle.dvd_block.specs.Buffers.{lines_rows};
@@ -12,7 +14,9 @@ use rs_lanes::{
 };
 use std::simd::prelude::*;
 
-/// Keeps the first 172 bytes of a row and sets the last ten so that it is a codeword.
+/// Keeps the first 172 bytes of a row and sets the last ten so that it is a codeword. No code calls it or
+/// `column_parity`: the C library encodes a word by its code itself. Neither uses vectors, which would compute 32
+/// words.
 pub fn row_parity(code: &Pi, row: &mut [u8; 182])
     ensures { IsEncoded 182 10 (take 172 row.old) row.new }
 {
@@ -31,7 +35,8 @@ pub fn column_parity(code: &Po, lines: &Lines, j: usize, cell: &mut [u8; 16])
     cell.copy_from_slice(&word[192..]);
 }
 
-/// Sets the last ten bytes of each of these rows so that it is a codeword, of 32 at once. The first 172 bytes of each stay.
+/// Sets the last ten bytes of each of these rows so that it is a codeword, of 32 at once. The first 172 bytes of each
+/// stay. It is public for dvd_par, whose workers have a piece of the rows each: so any number of them will do.
 pub fn rows_parity(rows: &mut [[u8; 182]])
     ensures size { length rows.new ≡ length rows.old }
     ensures encoded { EachIndex rows.new (λ i. IsEncoded 182 10 (take 172 (line rows.old i)) (line rows.new i)) }
@@ -43,7 +48,7 @@ pub fn rows_parity(rows: &mut [[u8; 182]])
     }
 }
 
-// The same of at most 32 rows.
+// The same of at most 32 rows: 32 is the number of lanes of a vector.
 fn group_parity(rows: &mut [[u8; 182]])
     requires { length rows.old ≤ 32 }
     ensures size { length rows.new ≡ length rows.old }
@@ -68,7 +73,8 @@ fn few_rows_parity(rows: &mut [[u8; 182]])
     rows.copy_from_slice(&buffer[..rows.len()]);
 }
 
-// At most 32 rows, and rows of zeros below them.
+// At most 32 rows, and rows of zeros below them. What is below isn't in the contract: whatever it is, the parity of a
+// row depends on that row alone.
 fn with_zeros_below(rows: &[[u8; 182]]) -> [[u8; 182]; 32]
     requires { length rows.now ≤ 32 }
     ensures size { length result ≡ 32 }
@@ -79,8 +85,9 @@ fn with_zeros_below(rows: &[[u8; 182]]) -> [[u8; 182]; 32]
     buffer
 }
 
-/// Sets these cells to the outer parity of the columns from `start` on, of 32 at once: the upper 192 bytes of each column,
-/// followed by its cell, are a codeword.
+/// Sets these cells to the outer parity of the columns from `start` on, of 32 at once: the upper 192 bytes of each
+/// column, followed by its cell, are a codeword. It is public for dvd_par: several workers read all rows, and write
+/// apart.
 pub fn columns_parity(lines: &Lines, start: usize, cells: &mut [[u8; 16]])
     requires { start + length cells.old ≤ 182 }
     ensures size { length cells.new ≡ length cells.old }
@@ -100,7 +107,8 @@ fn group_cells(lines: &Lines, start: usize, cells: &mut [[u8; 16]])
     ensures size { length cells.new ≡ length cells.old }
     ensures encoded { EachIndex cells.new (λ k. IsCodeword 208 16 (take 192 (column (lines_rows lines.now) (start + k)) ++ line cells.new k)) }
 {
-    // The parity of 32 columns is found even where fewer follow.
+    // The parity of 32 columns is found even where fewer follow: the last 32 begin at column 150. Lane `start - left`
+    // is that of column `start`.
     let left = start.min(150);
     let parity = parity_of_columns(&lines.rows()[..192], left);
     for (k, cell) in cells.iter_mut().enumerate() {
@@ -108,7 +116,8 @@ fn group_cells(lines: &Lines, start: usize, cells: &mut [[u8; 16]])
     }
 }
 
-// Sets a cell to lane `n` of these vectors.
+// Sets a cell to lane `n` of these vectors. Vector t has byte t of the parity of all 32 columns. The clause `lanes` is
+// for the prover, which doesn't know the lanes of a vector in an array: it is true of each.
 fn put_cell(parity: &[u8x32; 16], n: usize, cell: &mut [u8; 16])
     requires lane { n < 32 }
     requires lanes { EachIndex parity.now (λ t. length (line parity.now t) ≡ 32) }
@@ -119,10 +128,10 @@ fn put_cell(parity: &[u8x32; 16], n: usize, cell: &mut [u8; 16])
     }
 }
 
-/// Sets the parity of the 208 rows of a block: the last ten bytes of each, and the last sixteen rows. The first 172 bytes of
-/// the others stay.
-// The inner parity of the upper 192 rows comes first, and then the outer parity of all columns, those of inner parity too.
-// The rows of outer parity are then codewords, since the code is linear.
+/// Sets the parity of the 208 rows of a block: the last ten bytes of each, and the last sixteen rows. The first 172
+/// bytes of the others stay.
+// The inner parity of the upper 192 rows comes first, and then the outer parity of all columns, those of inner parity
+// too. The rows of outer parity are then codewords, since the code is linear.
 pub fn fill_parity(rows: &mut [[u8; 182]])
     requires { length rows.old ≡ 208 }
     ensures size { length rows.new ≡ 208 }
@@ -142,7 +151,7 @@ pub fn is_product(rows: &[[u8; 182]]) -> bool
     rows_are_codewords(rows) && columns_are_codewords(rows)
 }
 
-// Whether each row is a codeword.
+// Whether each row is a codeword. Some rows are tested twice, since 208 is no multiple of 32.
 fn rows_are_codewords(rows: &[[u8; 182]]) -> bool
     requires { length rows.now ≡ 208 }
     ensures { IsTrue result ↔ All (IsCodeword 182 10) rows.now }
@@ -164,7 +173,7 @@ fn group_rows_are_codewords(rows: &[[u8; 182]], top: usize) -> bool
     are_zeros(any_of(&row_values(rows, top)))
 }
 
-// Whether each column is a codeword.
+// Whether each column is a codeword. Some columns are tested twice, since 182 is no multiple of 32.
 fn columns_are_codewords(rows: &[[u8; 182]]) -> bool
     requires { length rows.now ≡ 208 }
     ensures { IsTrue result ↔ ((j : ℕ) → j < 182 → IsCodeword 208 16 (column rows.now j)) }
@@ -187,7 +196,7 @@ fn group_columns_are_codewords(rows: &[[u8; 182]], at: usize) -> bool
     are_zeros(any_of(&column_values(rows, at)))
 }
 
-// Copies the upper end of a column.
+// Copies the upper end of a column, as many bytes as there is room for.
 fn read_column(rows: &[[u8; 182]], j: usize, top: &mut [u8])
     requires column { j < 182 }
     requires size { length top.old ≤ length rows.now }
@@ -198,7 +207,8 @@ fn read_column(rows: &[[u8; 182]], j: usize, top: &mut [u8])
     }
 }
 
-// Copies the cells into rows, byte by byte.
+// Copies the cells into rows, byte by byte. The clause `sizes` says what the type does, since the prover doesn't know
+// the length of an array in a list.
 pub(crate) fn place_cells(cells: &[[u8; 16]], rows: &mut [[u8; 182]])
     requires cells { length cells.now ≡ 182 }
     requires rows { length rows.old ≡ 16 }
@@ -210,7 +220,7 @@ pub(crate) fn place_cells(cells: &[[u8; 16]], rows: &mut [[u8; 182]])
     }
 }
 
-// Copies a byte of each cell.
+// Copies byte `t` of each cell. All of the row is set.
 fn read_cells(cells: &[[u8; 16]], t: usize, row: &mut [u8; 182])
     requires byte { t < 16 }
     requires size { length cells.now ≡ 182 }

@@ -1,4 +1,5 @@
--- When the bits of a row of marks mark no place: its first 22 bytes are zeros, and the last has nothing but the two spare bits.
+-- When the bits of a row of marks mark no place: its first 22 bytes are zeros, and the last has nothing but the two
+-- spare bits.
 use Rattle.std.proofs.Common.{◌≡◌, ◌≢◌, ◌⊎◌, ◌∙◌, ℕ, ◌+◌, ◌*◌, ◌-◌, ◌/◌, ◌%◌, ◌<◌, ◌≤◌, ◌==◌, true, false, List, length, replicate, take, get_or, inl, inr, sym, ap, subst, arith}
 use Rattle.std.specs.Int.{bit_at}
 use Rattle.std.proofs.lemmas.Grind.{same_number_lists}

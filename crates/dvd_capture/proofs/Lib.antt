@@ -1,4 +1,5 @@
--- Why the contracts hold: lemmas on captured ECC blocks, the forms in which they are stored, and what two passes determine of them.
+-- Why the contracts hold: lemmas on captured ECC blocks, the forms in which they are stored, and what two passes
+-- determine of them.
 pub mod Bound
 pub mod ClearMarks
 pub mod Columns

@@ -1,4 +1,5 @@
--- A set of marks has one spelling: its runs are its maximal intervals, so two lists of runs that mark the same places are the same.
+-- A set of marks has one spelling: its runs are its maximal intervals, so two lists of runs that mark the same places
+-- are the same.
 use Rattle.std.proofs.Common.{◌≡◌, ◌⊎◌, ◌∙◌, ℕ, zero, suc, ◌+◌, ◌-◌, ◌*◌, ◌/◌, ◌%◌, ◌<◌, ◌≤◌, ◌&&◌, ◌||◌, nat_le, nat_lt, Bool, true, false, List, [], length, take, drop, get_or, slice_index, inl, inr, refl, sym, ap, subst, arith}
 use Rattle.std.proofs.lemmas.Bool.Decides.{leb_tells, nat_tests}
 use Rattle.std.proofs.lemmas.Grind.{same_number_lists}

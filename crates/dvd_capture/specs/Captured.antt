@@ -1,5 +1,5 @@
--- Captured blocks in a stream of bytes. A block has 208 recorded rows (ECMA-267, 19), one after the other. The definitions
--- go by index; the code reads all rows of a block as one piece.
+-- Captured blocks in a stream of bytes. A block has 208 recorded rows (ECMA-267, 19), one after the other. The
+-- definitions go by index; the code reads all rows of a block as one piece.
 use Rattle.std.specs.Prelude.{◌≡◌, ◌≢◌, ℕ, ◌*◌, ◌<◌, ◌≤◌, Bool, false, List, length, map, take, drop, replicate, slice_index, ⊤}
 use Rattle.std.specs.List.{range_with_len}
 use Rattle.std.specs.Io.KnownBytes.{Consumes, IsAtEnd}
@@ -93,8 +93,8 @@ pub record BreaksAt (form : Form) (old new : Option (List ℕ)) (at : ℕ) : Typ
   pub taken : Consumes old new bytes
   pub broken : IsBrokenAt bytes at
 
--- These are the listed unit of a block with these rows and marks: one unit that breaks no rule, whose fields have bytes. There is
--- one such unit.
+-- These are the listed unit of a block with these rows and marks: one unit that breaks no rule, whose fields have
+-- bytes. There is one such unit.
 pub record IsUnitOf (rows : List (List ℕ)) (marks : List (List Bool)) (unit : List ℕ) : Type 0 where
   pub size : length unit ≡ listed_size unit
   pub valid : IsUnbroken unit

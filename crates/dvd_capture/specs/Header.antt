@@ -7,8 +7,8 @@ use Rattle.dvd_capture.specs.declared.header.Header.{Header}
 abbrev pub initial_bytes : List ℕ
 initial_bytes = 0x44 ∷ 0x56 ∷ 0x44 ∷ 0x45 ∷ 0x43 ∷ 0x43 ∷ 0 ∷ 2 ∷ []
 
--- These eight, then shape and zones, two zeros, the four numbers of four bytes each, the first byte the most significant,
--- and four zeros.
+-- These eight, then shape and zones, two zeros, the four numbers of four bytes each, the first byte the most
+-- significant, and four zeros.
 unfoldable pub header_bytes : Header → List ℕ
 header_bytes header =
     initial_bytes ++ header.shape ∷ header.zones ∷ 0 ∷ 0

@@ -1,4 +1,5 @@
--- What the contracts speak of: captured ECC blocks, the forms in which they are stored, and what two passes determine of them.
+-- What the contracts speak of: captured ECC blocks, the forms in which they are stored, and what two passes determine
+-- of them.
 pub mod Answers
 pub mod Captured
 pub mod Fetching

@@ -1,5 +1,6 @@
--- Ours: the listed form of a captured block. Its unit has the 37,856 bytes of the recorded rows, and after them fields of two
--- bytes: the number of its runs, and for each run its start and its length. A run marks so many places from its start on.
+-- Ours: the listed form of a captured block. Its unit has the 37,856 bytes of the recorded rows, and after them fields
+-- of two bytes: the number of its runs, and for each run its start and its length. A run marks so many places from its
+-- start on.
 use Rattle.std.specs.Prelude.{◌≡◌, ◌⊎◌, ℕ, zero, suc, ◌+◌, ◌-◌, ◌*◌, ◌/◌, ◌%◌, ◌<◌, ◌≤◌, Bool, false, nat_le, nat_lt, ◌&&◌, ◌||◌, List, length, map, slice_index, slice_index_or}
 use Rattle.std.specs.List.{range_with_len}
 use Rattle.coding.specs.Recording.{row_at}
@@ -29,8 +30,8 @@ end_of bytes i = start_of bytes i + length_of bytes i
 abbrev pub listed_size : List ℕ → ℕ
 listed_size bytes = 37_858 + 4 * run_count bytes
 
--- The rules. There are at most 18,928 runs. A run starts at a place of the block, and from the second run on above the end of
--- the run before. It has a place, and all its places are those of the block.
+-- The rules. There are at most 18,928 runs. A run starts at a place of the block, and from the second run on above the
+-- end of the run before. It has a place, and all its places are those of the block.
 abbrev pub BreaksNumber : List ℕ → Type 0
 BreaksNumber bytes = 18_928 < run_count bytes
 

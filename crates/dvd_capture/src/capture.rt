@@ -1,4 +1,6 @@
-//! Captured blocks are read from a source.
+//! Captured blocks are read from a source. A recorded row, or record, is a row at its place in the order of recording,
+//! with its mark bits after it in the marked form. `tactic` names lemmas for the prover. Numbers of bytes have 32 bits
+//! in answers: the longest block, a listed one with all its runs, has 113,570 bytes.
 ghost use Rattle.std.specs.Prelude.{◌≡◌, ◌≢◌, ℕ, ◌*◌, ◌<◌, ◌==◌, if◌then◌else◌, length, take, slice_set};
 ghost use Rattle.coding.specs.Recording.{row_at};
 ghost use Rattle.dvd_capture.specs.Captured.{HasSize, block_size, marks_in, record_size};
@@ -35,7 +37,9 @@ pub enum FetchAnswer {
     BadMarks { at: u32 },
 }
 
-/// Reads one captured block, by as many calls as it takes. A block that isn't whole leaves the work at stage Empty.
+/// Reads one captured block, by as many calls as it takes. A block that isn't whole leaves the work at stage Empty: in
+/// the listed form its rows may be written by then, with some of their marks. Answers, columns and sectors of an
+/// earlier block stay in their buffers, and no clause of either stage speaks of them.
 pub fn fetch<S: Source>(src: &mut S, form: Form, work: &mut Work) -> FetchAnswer
     ensures fetches { Fetches form (S.seen src.old) (S.seen src.new) (rows_of work.new) (marks_of_work work.new) result }
     ensures fetched { result ≡ Full → stage_of work.new ≡ Fetched }
@@ -53,7 +57,8 @@ pub fn fetch<S: Source>(src: &mut S, form: Form, work: &mut Work) -> FetchAnswer
     answer
 }
 
-// Reads a block into its buffers.
+// Reads a block into its buffers. They are lent without the work, whose stage would have to fit what they hold. After
+// another answer than Full they may be written in part, or not at all.
 fn fetch_parts<S: Source>(
     src: &mut S,
     form: Form,
@@ -68,7 +73,8 @@ fn fetch_parts<S: Source>(
     }
 }
 
-// Reads the 208 recorded rows of a block, through as many bytes as its form has.
+// Reads the 208 recorded rows of a block, through as many bytes as its form has. The listed form has its rows read here
+// too, as a plain block. The clause `never` says that BadMarks comes from runs alone.
 pub(crate) fn fetch_rows<S: Source>(
     src: &mut S,
     form: Form,
@@ -85,7 +91,7 @@ pub(crate) fn fetch_rows<S: Source>(
 }
 
 // Reads the 208 recorded rows of a block by a buffer of its size. They are read as one list and then put in their
-// places, since one read can't fill rows that are apart.
+// places, since one read can't fill rows that are apart. So no row and no mark is written before all bytes have come.
 #[tactic(auto, using(crate::proofs::FetchedCounts::cut_counts))]
 fn fetch_by<S: Source>(
     src: &mut S,
@@ -109,7 +115,8 @@ fn fetch_by<S: Source>(
     }
 }
 
-/// What is answered where a source ended after so many bytes of a block, or of a part of one.
+/// What is answered where a source ended after so many bytes of a block, or of a part of one: 42,640 are a block of the
+/// longest form here. It is public for dvd_assemble, which reads recording frames.
 pub fn cut_off(bytes: usize) -> FetchAnswer
     requires { bytes < 42640 }
     ensures { result ≡ (if bytes == 0 then End else Short bytes) }
@@ -129,6 +136,7 @@ fn put_rows(received: &mut Received, marks: &mut Marks, form: Form, bytes: &[u8]
     ensures { ArePut form bytes.now (received_rows received.new) (marks_rows marks.new) 208 }
 {
     match form {
+        // The bytes of a listed block's rows are those of a plain one. No chunk is left over: 37,856 is 208 times 182.
         Form::Plain | Form::Listed => {
             let (records, _) = bytes.as_chunks::<182>();
             received.set_recorded(records);
@@ -138,7 +146,8 @@ fn put_rows(received: &mut Received, marks: &mut Marks, form: Form, bytes: &[u8]
     }
 }
 
-// The same where each recorded row has its marks after it.
+// The same where each recorded row has its marks after it, so that no two rows are side by side: they are put one by
+// one. The contracts are of any form.
 fn put_records(received: &mut Received, marks: &mut Marks, form: Form, bytes: &[u8])
     requires { length bytes.now ≡ record_size form * 208 }
     ensures { ArePut form bytes.now (received_rows received.new) (marks_rows marks.new) 208 }
@@ -150,7 +159,7 @@ fn put_records(received: &mut Received, marks: &mut Marks, form: Form, bytes: &[
     }
 }
 
-// Sets the row that is recorded row `m`, and its marks.
+// Sets the row that is recorded row `m`, and its marks. All other rows and marks stay.
 fn put_record(received: &mut Received, marks: &mut Marks, m: usize, form: Form, bytes: &[u8])
     requires row { m < 208 }
     requires size { length bytes.now ≡ record_size form }

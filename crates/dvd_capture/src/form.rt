@@ -14,7 +14,8 @@ pub enum Form {
 }
 
 impl Form {
-    /// The bytes of a captured block, in a form that gives each block as many.
+    /// The bytes of a captured block, in a form that gives each block as many. The listed form doesn't: its length
+    /// depends on the runs.
     pub fn size(self) -> usize
         requires { HasSize self }
         ensures { result ≡ block_size self }
@@ -22,7 +23,7 @@ impl Form {
         208 * self.record_size()
     }
 
-    /// The bytes of a recorded row.
+    /// The bytes of a recorded row. It is public for dvd_assemble, which reads thirteen of them at once.
     pub fn record_size(self) -> usize
         ensures { result ≡ record_size self }
     {

@@ -1,13 +1,16 @@
-//! The header of a listed capture, which states the layout of the disk.
+//! The header of a listed capture, which states the layout of the disk. It has the letters and the number of the form
+//! in bytes 0 to 7, the shape in 8, the zones in 9, four numbers of four bytes from 12 on, and zeros elsewhere. Numbers
+//! have their most significant byte first. All of it is a choice of this program: no standard has such a form. `tactic`
+//! says to the prover which definitions a proof needs.
 ghost use Rattle.std.specs.Prelude.{◌≡◌, ◌+◌, ◌<◌, ◌≤◌, [], ◌∷◌, slice_index, IfOk, Err};
 ghost use Rattle.std.specs.Int.{from_be_bytes, w32};
 
 use byteorder::{BigEndian, ByteOrder};
 use thiserror::Error;
 
-/// What a header states, by its numbers: the shape (0 single, 1 parallel, 2 opposite), the zones (0 data, 1 all), and, in
-/// sectors or blocks, the lengths of both layers, of the initial zone and of the tail. Whether a disk may have such lengths
-/// isn't known here.
+/// What a header states, by its numbers: the shape (0 single, 1 parallel, 2 opposite), the zones (0 data, 1 all), and,
+/// in sectors or blocks, the lengths of both layers, of the initial zone and of the tail. Whether a disk may have such
+/// lengths isn't known here: this crate doesn't use dvd_layout.
 #[derive(Clone, Copy, Debug, PartialEq, Eq)]
 pub struct Header {
     pub shape: u8,
@@ -28,7 +31,8 @@ pub enum HeaderFault {
     Place { at: u8 },
 }
 
-// The letters DVDECC, and the number of the form.
+// The letters DVDECC, and the number of the form in two bytes, which is 2. Any other letters and number would do, but
+// captures that were written have these.
 const INITIAL: [u8; 8] = [0x44, 0x56, 0x44, 0x45, 0x43, 0x43, 0, 2];
 
 impl Header {
@@ -36,7 +40,7 @@ impl Header {
     ghost use Rattle.dvd_capture.specs.declared.header.HeaderFault.TheVariants.{Place};
     ghost use Rattle.dvd_capture.specs.Header.{IsFirstWrongByte, IsHeader, header_bytes, may_stand};
 
-    /// Writes the 32 bytes.
+    /// Writes the 32 bytes, whatever they were.
     #[tactic(auto, unfolding(crate::specs::Header::header_bytes))]
     pub fn to_bytes(&self, out: &mut [u8; 32])
         ensures { out.new ≡ header_bytes self.now }
@@ -74,7 +78,7 @@ impl Header {
         })
     }
 
-    // Whether a header may have this byte at a place. A byte that no field uses is 0.
+    // Whether a header may have this byte at a place. A byte that no field uses is 0. The bytes of numbers are free.
     #[tactic(auto, unfolding(crate::specs::Header::may_stand))]
     fn is_allowed(place: usize, byte: u8) -> bool
         requires { place < 32 }

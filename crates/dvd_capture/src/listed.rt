@@ -1,5 +1,6 @@
-//! Blocks in the listed form: the bytes of the plain form, and after them fields of two bytes, the number of runs of marked
-//! places and each run's start and length.
+//! Blocks in the listed form: the bytes of the plain form, and after them fields of two bytes, the number of runs of
+//! marked places and each run's start and length. All these are a unit. A run is marked places one after the other in
+//! the order of recording. In contracts `before` is the bytes of the rows, which come before the fields.
 ghost use Rattle.std.specs.Prelude.{◌≡◌, ℕ, ◌+◌, ◌<◌, ◌≤◌, List, length, IfOk, IfErr, OnOk, OnErr};
 ghost use Rattle.coding.specs.Product.{line};
 ghost use Rattle.dvd_ports.specs.Causes.{HasCause};
@@ -23,7 +24,8 @@ use byteorder::{BigEndian, ByteOrder};
 use dvd_block::write_rows;
 use dvd_ports::{Failed, Sink, Source, WriteFault, read_whole, write_whole};
 
-/// Writes the unit of the received rows and marks. After a fault a prefix of it was taken.
+/// Writes the unit of the received rows and marks. After a fault a prefix of it was taken. The work stays as it is; row
+/// answers and columns aren't written.
 pub fn write_listed<K: Sink>(work: &Work, out: &mut K) -> Result<(), WriteFault>
     requires { HasBlock (stage_of work.now) }
     ensures written { OnOk result (AppendsUnit (K.seen out.old).bytes (K.seen out.new).bytes (rows_of work.now) (marks_of_work work.now)) }
@@ -33,7 +35,7 @@ pub fn write_listed<K: Sink>(work: &Work, out: &mut K) -> Result<(), WriteFault>
     write_unit(work.received.rows(), &work.marks, out)
 }
 
-// Writes the unit of these rows and marks.
+// Writes the unit of these rows and marks: what `write_listed` does, without a stage to speak of.
 fn write_unit<K: Sink>(rows: &[[u8; 182]], marks: &Marks, out: &mut K) -> Result<(), WriteFault>
     requires { length rows.now ≡ 208 }
     ensures written { OnOk result (AppendsUnit (K.seen out.old).bytes (K.seen out.new).bytes rows.now (marks_rows marks.now)) }
@@ -58,7 +60,9 @@ fn write_runs<K: Sink>(marks: &Marks, out: &mut K) -> Result<(), WriteFault>
     write_whole(out, fields.as_slice())
 }
 
-/// Reads a unit into its buffers. The rows come as in the plain form.
+/// Reads a unit into its buffers. The rows come as in the plain form, which also takes all marks away: the runs then
+/// only add marks. After an answer other than Full, some runs may be marked already; `fetch` leaves such a block at
+/// stage Empty.
 pub(crate) fn fetch_listed<S: Source>(
     src: &mut S,
     received: &mut Received,
@@ -85,8 +89,8 @@ fn fetch_marks<S: Source>(src: &mut S, marks: &mut Marks) -> FetchAnswer
     }
 }
 
-// As `fetch_marks`; `Ok` is the whole list. The fields of the runs come in pieces, and each is looked at before the next one
-// is asked for, so that no more is waited for where one breaks a rule.
+// As `fetch_marks`; `Ok` is the whole list. The fields of the runs come in pieces, and each is looked at before the
+// next one is asked for, so that no more is waited for where one breaks a rule.
 fn fetch_runs<S: Source>(src: &mut S, marks: &mut Marks) -> Result<(), FetchAnswer>
     ensures all { (before : List ℕ) → AreRows before (mark_of (marks_rows marks.old))
         → OnOk result (TakesAll before (mark_of (marks_rows marks.new)) (S.seen src.old).bytes (S.seen src.new).bytes) }
@@ -94,6 +98,7 @@ fn fetch_runs<S: Source>(src: &mut S, marks: &mut Marks) -> Result<(), FetchAnsw
         → IfErr result (IsStopped before (S.seen src.old).bytes (S.seen src.new).bytes) }
     ensures cause { HasFetchCause result (S.seen src.old) (S.seen src.new) }
 {
+    // The offsets that are reported count from the first byte of the unit.
     let number = fetch_field(src, PLACES)?;
     // Refused before more is read, and so the fields have room for all that follow.
     if number > MOST_RUNS {
@@ -101,6 +106,7 @@ fn fetch_runs<S: Source>(src: &mut S, marks: &mut Marks) -> Result<(), FetchAnsw
     }
     let mut fields = Fields::new();
     let mut taken = Taken { runs: 0, end: 0 };
+    // Each round reads a byte at least. A run is taken once both of its fields are whole, so all are at the end.
     while fields.len() < 4 * number {
         read_fields(src, &mut fields, 4 * number)?;
         taken = take_runs(marks, fields.as_slice(), taken)?;
@@ -108,7 +114,8 @@ fn fetch_runs<S: Source>(src: &mut S, marks: &mut Marks) -> Result<(), FetchAnsw
     Ok(())
 }
 
-// Reads some of the fields, up to so many bytes.
+// Reads some of the fields, by one call, up to so many bytes in all. So nothing of the next unit is read. 75,712 bytes
+// are the fields of the most runs, 18,928. After an error the fields stay.
 fn read_fields<S: Source>(src: &mut S, fields: &mut Fields, most: usize) -> Result<(), FetchAnswer>
     requires some { array_vec_len fields.old < most }
     requires room { most ≤ 75_712 }
@@ -116,7 +123,8 @@ fn read_fields<S: Source>(src: &mut S, fields: &mut Fields, most: usize) -> Resu
     ensures none { IfErr result (TakesNone (37_858 + length fields.old.items) (S.seen src.old).bytes (S.seen src.new).bytes) }
     ensures cause { HasFetchCause result (S.seen src.old) (S.seen src.new) }
 {
-    // A read goes into an array first, since the list of fields lends only what it holds.
+    // A read goes into an array first, since the list of fields lends only what it holds. Any length would do: a longer
+    // one takes more stack, and a shorter one more calls.
     let mut piece = [0; 4096];
     let room = piece.len().min(most - fields.len());
     match src.read(&mut piece[..room]) {
@@ -132,7 +140,8 @@ fn read_fields<S: Source>(src: &mut S, fields: &mut Fields, most: usize) -> Resu
     }
 }
 
-// Reads a field, before which so many bytes of the unit were taken.
+// Reads a field, before which so many bytes of the unit were taken; an end within it is reported with those. The number
+// of runs alone is read so, after 37,856 bytes. The clause on `held` has any number that leaves room in 32 bits.
 fn fetch_field<S: Source>(src: &mut S, held: usize) -> Result<usize, FetchAnswer>
     requires { held ≤ 200_000 }
     ensures field { IfOk result (TakesField (S.seen src.old).bytes (S.seen src.new).bytes) }

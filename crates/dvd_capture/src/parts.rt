@@ -1,5 +1,10 @@
 //! The buffers of a captured block. Whoever decodes several rows or columns at once lends them one by one. They are on
-//! the heap and apart from each other, so that one can be read while another is written.
+//! the heap and apart from each other, so that one can be read while another is written. Their lengths never change, by
+//! the ghost field `size` of each, which takes no memory and is public for proofs of the crates above. In contracts
+//! `received_rows`, `marks_rows`, `answer_rows`, `column_answers` and `sector_bytes` are what a buffer holds, as lists.
+//! A clause `writes_back` says of a loan for writing that the buffer is afterwards what was written through it. The
+//! clause `width` says what a type does: the prover doesn't know the length of an array in a list. Memory fails in one
+//! way, so a failure has nothing but its name.
 ghost use Rattle.std.specs.Prelude.{◌≡◌, ℕ, ◌↔◌, ◌+◌, ◌*◌, ◌<◌, ◌≤◌, false, length, take, vec_len, IfOk, IsTrue, replicate, slice_index_or, slice_set};
 ghost use Rattle.std.specs.List.{flat_map};
 ghost use Rattle.std.specs.declared.option.Option.TheVariants.{None};
@@ -31,6 +36,7 @@ pub struct Marks {
 }
 
 /// What was found for one row: the codeword near it and what that corrects, or, for a failed row, no `fix`.
+/// The bytes of a failed row mean nothing.
 #[derive(Clone, Copy, Debug, PartialEq, Eq, Drop)]
 pub struct AnswerRow {
     pub bytes: [u8; 182],
@@ -100,8 +106,8 @@ impl Received {
         self.rows.copy_from_slice(rows);
     }
 
-    /// Sets all rows to these in the order of recording: the twelve rows of each data frame as one piece, and then a row of
-    /// outer parity.
+    /// Sets all rows to these in the order of recording: the twelve rows of each data frame as one piece, and then a
+    /// row of outer parity. Rows of one frame are side by side in both orders, so that they are copied at once.
     pub(crate) fn set_recorded(&mut self, records: &[[u8; 182]])
         requires { length records.now ≡ 208 }
         ensures { (i : ℕ) → i < 208 → line (received_rows self.new) i ≡ line records.now (record_at i) }
@@ -143,7 +149,7 @@ impl Marks {
         Ok(Marks { rows })
     }
 
-    /// The marks of row `i`, lent.
+    /// The marks of row `i`, lent as bits. `row` writes them as a list, which a decoder needs.
     pub(crate) fn row_marks(&self, i: usize) -> &RowMarks
         requires { i < 208 }
         ensures { marks_of_row result.now ≡ marks_line (marks_rows self.now) i }
@@ -194,7 +200,8 @@ impl Marks {
         self.rows[i].set(j, mark);
     }
 
-    /// Sets the marks of row `i` to those in a recorded row by itself, and no others.
+    /// Sets the marks of row `i` to those in a recorded row by itself, and no others. In the listed form these are
+    /// none: its runs come after all rows.
     pub(crate) fn set_record(&mut self, i: usize, form: Form, bytes: &[u8])
         requires row { i < 208 }
         requires size { length bytes.now ≡ record_size form }
@@ -222,6 +229,7 @@ impl AnswerRow {
     }
 }
 
+// So rs_lanes tests the columns of answers where they are, without a copy of the rows.
 impl Row for AnswerRow {
     ghost word = { λ answer. answer.bytes };
 
@@ -255,7 +263,7 @@ impl Answers {
         &self.rows
     }
 
-    /// The row answers, lent for writing. Their number stays.
+    /// The row answers, lent for writing. Their number stays. Several workers write a piece of them each.
     pub fn rows_mut(&mut self) -> &mut [AnswerRow]
         ensures* writes_back { sem 𝓛 (LendsAnswers self.entry result) }
         ensures rows { result.now ≡ answer_rows self.old }
@@ -301,7 +309,7 @@ impl Columns {
         &self.all
     }
 
-    /// The columns, lent for writing. Their number stays.
+    /// The columns, lent for writing. Their number stays. Several workers write a piece of them each.
     pub fn all_mut(&mut self) -> &mut [ColumnAnswer]
         ensures* writes_back { sem 𝓛 (LendsColumns self.entry result) }
         ensures columns { result.now ≡ column_answers self.old }
@@ -324,7 +332,7 @@ impl Sectors {
         Ok(Sectors { all })
     }
 
-    /// Sets sector `f`, and nothing else.
+    /// Sets sector `f`, and nothing else. Only tests call it: decoders write a sector in place, by `sector_mut`.
     pub fn set(&mut self, f: usize, main: &[u8; 2048])
         requires { f < 16 }
         ensures { sector_bytes self.new ≡ slice_set (sector_bytes self.old) f main.now }
@@ -365,7 +373,8 @@ impl Sectors {
     }
 }
 
-// Sets the rows of a block that are the thirteen recorded rows of frame `f`, and no others.
+// Sets the rows of a block that are the thirteen recorded rows of frame `f`, and no others. The contract keeps only
+// those of the frames before, since frames are put in order and the later ones are overwritten.
 fn put_frame(rows: &mut [[u8; 182]], f: usize, records: &[[u8; 182]])
     requires frame { f < 16 }
     requires rows { length rows.old ≡ 208 }

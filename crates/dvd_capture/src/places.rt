@@ -1,4 +1,6 @@
-//! The marks of a block by its places in the order of recording: place 182 m + j is place j of recorded row m.
+//! The marks of a block by its places in the order of recording: place 182 m + j is place j of recorded row m. Runs of
+//! the listed form go by these places, and `Marks` by the rows of the block: `row_of_record` leads from one to the
+//! other.
 ghost use Rattle.std.specs.Prelude.{◌≡◌, ◌≢◌, ℕ, ◌<◌, ◌≤◌, ◌&&◌, ◌||◌, true, nat_le, nat_lt};
 ghost use Rattle.dvd_capture.specs.Listed.{mark_of};
 ghost use Rattle.dvd_capture.specs.Inner.Listing.{IsFound, starts_below};
@@ -31,7 +33,8 @@ pub(crate) fn mark_places(marks: &mut Marks, start: usize, end: usize)
     }
 }
 
-/// The first place from `from` on whose mark is this, or the number of places.
+/// The first place from `from` on whose mark is this, or the number of places. Only the row of `from` is looked at from
+/// within, and all after it from their first place.
 pub(crate) fn next_place(marks: &Marks, from: usize, marked: bool) -> usize
     requires { from ≤ 37_856 }
     ensures { IsFound (mark_of (marks_rows marks.now)) marked from 37_856 result }
@@ -48,8 +51,8 @@ pub(crate) fn next_place(marks: &Marks, from: usize, marked: bool) -> usize
     PLACES
 }
 
-/// How many runs the marked places are: at each that has no marked place before it one starts. They are counted before
-/// they are written, since their number comes first.
+/// How many runs the marked places are: one starts at each marked place that has no marked place just before it. They
+/// are counted before they are written, since their number comes first.
 pub(crate) fn count_runs(marks: &Marks) -> usize
     ensures { result ≡ starts_below (mark_of (marks_rows marks.now)) 37_856 }
 {

@@ -1,4 +1,5 @@
-//! The marks of one row.
+//! The marks of one row, as bits: place j has bit 7 - j % 8 of byte j / 8. The functions at the end are of the 23
+//! bytes, and the methods say the same of the list of 182 marks that a contract has.
 ghost use Rattle.std.specs.Prelude.{◌≡◌, ◌↔◌, ℕ, ◌+◌, ◌-◌, ◌<◌, ◌≤◌, ◌≢◌, ◌==◌, false, length, IsTrue, replicate, slice_index, slice_index_or, slice_set};
 ghost use Rattle.std.specs.Int.{bit_at};
 ghost use Rattle.dvd_capture.specs.Captured.{marks_in, record_size};
@@ -8,14 +9,15 @@ ghost use Rattle.dvd_capture.specs.MarkBits.{is_set, mark_at, marks_of};
 use crate::form::Form;
 use std::simd::prelude::*;
 
-/// A byte for each place of a row, and two that are spare: the 23 bytes of mark bits have 184 bits.
+/// The length of a row's marks as bytes: one for each place, and two that are spare, since 23 bytes have 184 bits.
 pub const SPREAD: usize = 184;
 
-// The bit of each of eight places in their byte of mark bits.
+// The bit of each of eight places in their byte of mark bits. Only `put_bits` needs all eight at once; other functions
+// shift.
 const BITS: [u8; 8] = [0x80, 0x40, 0x20, 0x10, 0x08, 0x04, 0x02, 0x01];
 
-/// A mark for each of the 182 places of a row, a bit each: 23 bytes, of which the last two bits are spare. Two are equal
-/// where these bits are too.
+/// A mark for each of the 182 places of a row, a bit each: 23 bytes, of which the last two bits are spare. Two are
+/// equal where these bits are too. The bits of a recorded row are kept as they came, and a spare one marks no place.
 #[derive(Clone, Copy, Debug, PartialEq, Eq, Drop)]
 pub struct RowMarks {
     bits: [u8; 23],
@@ -62,7 +64,7 @@ impl RowMarks {
         set_mark(&mut self.bits, j, mark);
     }
 
-    /// Writes the mark of each place.
+    /// Writes the mark of each place, by way of `spread`: eight bits at once, and none looked up by itself.
     pub fn unpack(&self, out: &mut [bool; 182])
         ensures { out.new ≡ marks_of_row self.now }
     {
@@ -72,15 +74,16 @@ impl RowMarks {
         }
     }
 
-    /// A byte for the mark of each place, 0 where it isn't marked. What the two spare bytes are isn't said.
+    /// A byte for the mark of each place, 0 where it isn't marked. What the two spare bytes are isn't said. It is
+    /// public for dvd_merge, which joins rows by vectors of bytes.
     pub fn spread(&self) -> [u8; SPREAD]
         ensures { (j : ℕ) → j < 182 → is_set (slice_index result j) ≡ slice_index_or (marks_of_row self.now) j false }
     {
         spread_bits(&self.bits)
     }
 
-    /// Sets all marks to those in a recorded row by itself, which has mark bits in the marked form alone: the most significant
-    /// bit of a byte is that of its first place.
+    /// Sets all marks to those in a recorded row by itself, which has mark bits in the marked form alone: the most
+    /// significant bit of a byte is that of its first place.
     pub fn copy_from_record(&mut self, form: Form, bytes: &[u8])
         requires { length bytes.now ≡ record_size form }
         ensures { marks_of_row self.new ≡ marks_in form bytes.now }
@@ -109,10 +112,12 @@ fn is_marked(bits: &[u8; 23], j: usize) -> bool
 }
 
 // The first place from `from` on whose mark is this, or 182. Most bytes have eight marks alike, and are passed as one.
+// In the last byte this may lead to 184: the loop ends all the same.
 fn next_mark(bits: &[u8; 23], from: usize, mark: bool) -> usize
     requires { from ≤ 182 }
     ensures { IsFound (mark_at bits.now) mark from 182 result }
 {
+    // The byte in which no place has the mark.
     let passed = if mark { 0 } else { 255 };
     let mut j = from;
     while j < 182 {
@@ -139,7 +144,8 @@ fn spread_bits(bits: &[u8; 23]) -> [u8; SPREAD]
 }
 
 // Sets eight bytes from place `at` on: the first is 0 where the highest bit is, and so on. All eight are set at once,
-// without a test of each bit.
+// without a test of each bit. The contract keeps only what comes before, since bytes are set from the first on. It is
+// inlined, as all with vectors is; no proof rests on that.
 #[inline(always)]
 fn put_bits(bits: u8, marks: &mut [u8], at: usize)
     requires { at + 8 ≤ length marks.old }
@@ -151,7 +157,7 @@ fn put_bits(bits: u8, marks: &mut [u8], at: usize)
     lanes.copy_to_slice(&mut marks[at..]);
 }
 
-// Sets the mark of place `j`.
+// Sets the mark of place `j`. All other bits stay, the spare ones too.
 fn set_mark(bits: &mut [u8; 23], j: usize, mark: bool)
     requires { j < 182 }
     ensures { marks_of bits.new ≡ slice_set (marks_of bits.old) j mark }

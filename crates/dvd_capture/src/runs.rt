@@ -1,4 +1,6 @@
-//! The runs of marked places of a block as fields: put one after the other, and taken as they come.
+//! The runs of marked places of a block as fields: put one after the other, and taken as they come. A field is a number
+//! of two bytes, the most significant first. A run has two fields, its start and its length; its end is their sum, the
+//! place after its last.
 ghost use Rattle.std.specs.Prelude.{◌≡◌, ℕ, ◌+◌, ◌*◌, ◌<◌, ◌≤◌, ◌⊎◌, List, [], ◌++◌, length, take, IfOk, IfErr, OnOk};
 ghost use Rattle.std.specs.Int.{to_be_bytes, w16};
 ghost use Rattle.arrayvec.specs.ArrayVec.{array_vec_len};
@@ -18,17 +20,20 @@ use byteorder::{BigEndian, ByteOrder};
 pub(crate) const MOST_RUNS: usize = 18_928;
 
 /// The fields after the rows of a block: the number of its runs, and two for each. Each field is two bytes: 2 and 4 ×
-/// 18,928.
+/// 18,928. Writers put all of them in one; readers take the number by itself, and have the fields of the runs here.
+/// They are on the stack, since nothing is allocated once blocks are read.
 pub(crate) type Fields = ArrayVec<u8, 75_714>;
 
-/// How many runs were taken, and where the last of them ends.
+/// How many runs were taken, and where the last of them ends. Before the first run both are 0: so an end of 0 says
+/// nothing of the first place, and `check_start` asks for the number of runs too.
 #[derive(Clone, Copy)]
 pub(crate) struct Taken {
     pub runs: usize,
     pub end: usize,
 }
 
-/// Puts the number of runs and then each run.
+/// Puts the number of runs and then each run. A run goes from the next marked place to the next that isn't, so that no
+/// two touch, as the readers of the form demand.
 pub(crate) fn list_runs(marks: &Marks, fields: &mut Fields)
     requires { fields.old.items ≡ [] }
     ensures { (before : List ℕ) → length before ≡ 37_856 → AreFields before (mark_of (marks_rows marks.now)) fields.new.items }
@@ -44,7 +49,7 @@ pub(crate) fn list_runs(marks: &Marks, fields: &mut Fields)
     }
 }
 
-// Puts a field.
+// Puts a field. The greatest value is a length of 37,856, where all places are one run.
 fn put_field(fields: &mut Fields, value: usize)
     requires value { value ≤ 37_856 }
     requires room { array_vec_len fields.old + 2 ≤ 75_714 }
@@ -55,7 +60,10 @@ fn put_field(fields: &mut Fields, value: usize)
     let _ = fields.try_extend_from_slice(&(value as u16).to_be_bytes());
 }
 
-/// Takes the runs that are whole in these fields, after those that were taken before, and looks at the start of the next one.
+/// Takes the runs that are whole in these fields, after those that were taken before, and looks at the start of the
+/// next one. The fields are all that came so far, and may be cut within a run or a field. Marks are only added. After a
+/// broken rule the runs before it are marked. In the clauses `head` is what comes before the fields: the bytes of the
+/// rows and the number of runs, which is `count`. 75,712 bytes are the fields of the most runs, two of two bytes each.
 pub(crate) fn take_runs(
     marks: &mut Marks,
     fields: &[u8],
@@ -101,7 +109,8 @@ fn field(fields: &[u8], offset: usize) -> usize
 }
 
 // Run `i` starts at a place of the block, above the end of the one before. A run that goes on where the one before ends
-// would be a second spelling of the same marks.
+// would be a second spelling of the same marks. The first run has none before it, and may start at place 0. `end` is
+// then any number. `i` is below the most runs, so that the offset that is reported fits 32 bits.
 fn check_start(i: usize, start: usize, end: usize) -> Result<(), FetchAnswer>
     requires { i < 18_928 }
     ensures valid { OnOk result ((start < 37_856) × (0 < i → end < start)) }
@@ -115,7 +124,8 @@ fn check_start(i: usize, start: usize, end: usize) -> Result<(), FetchAnswer>
     Ok(())
 }
 
-// It has a place, and none beyond the block's last one.
+// It has a place, and none beyond the block's last one. Start and length are two rules, since each field that breaks
+// one is reported with its own offset: the number of runs has two bytes, and a run has four.
 fn check_length(i: usize, start: usize, length: usize) -> Result<(), FetchAnswer>
     requires i { i < 18_928 }
     requires start { start < 37_856 }

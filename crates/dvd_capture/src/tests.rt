@@ -127,7 +127,8 @@ fn a_plain_block_is_fetched_by_single_bytes(rt: HostRuntime) -> Result<(), Fail>
     has_all(&work, &PLAIN)
 }
 
-// Bytes of a stream, the calls of the source that fail, and what it gives as one block of the plain and of the marked form.
+// Bytes of a stream, the calls of the source that fail, and what it gives as one block of the plain and of the marked
+// form.
 type Cut = (usize, &'static [u64], FetchAnswer, FetchAnswer);
 
 static CUT: [Cut; 6] = [

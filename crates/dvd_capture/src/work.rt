@@ -1,4 +1,6 @@
-//! A captured block: what was received, and what was found of it.
+//! A captured block: what was received, and what was found of it. A getter requires a stage at which its buffer means
+//! something. Some contracts speak of the buffer alone and would do without; but so nobody takes what is left of an
+//! earlier block for this one.
 ghost use Rattle.std.proofs.Props.{props};
 ghost use Rattle.std.specs.Prelude.{◌≡◌, ℕ, ◌<◌, ◌≤◌, ◌≢◌, ◌↔◌, Bool, false, List, length, take, replicate, slice_index, slice_index_or, slice_set, IfOk, IfSome, IfNone, OnSome};
 ghost use Rattle.std.specs.List.{flat_map};
@@ -19,7 +21,9 @@ use rs_decode::Fix;
 use std::alloc::Global;
 
 /// A received block with its marks, what was found of it, and its sixteen sectors. The five buffers are lent apart from
-/// each other. Their memory is taken once, before anything is read, and serves each block in turn.
+/// each other. Their memory is taken once, before anything is read, and serves each block in turn. The stage is
+/// private: whoever has a buffer may write it, but only at a stage that says nothing of what it then holds. `by` shows
+/// that any two proofs of a ghost field are the same, so that a work may keep one.
 #[derive(Drop)]
 pub struct Work {
     pub received: Received,
@@ -44,7 +48,8 @@ impl Work {
     ghost use Rattle.dvd_capture.specs.Parts.{marks_of_row};
     ghost use Rattle.dvd_capture.specs.Works.{answers_of_work, block_of, marks_of_work, rows_of, sectors_of, stage_of};
 
-    /// No block: all bytes 0, no marks, no row and no column answered. `NoMemory` may come at any time, and nothing is taken then.
+    /// No block: all bytes 0, no marks, no row and no column answered. `NoMemory` may come at any time, and nothing is
+    /// taken then: buffers that were taken before it are given back.
     pub fn new(alloc: Global) -> Result<Work, NoMemory>
         ensures stage { IfOk result (λ work. stage_of work ≡ Empty) }
         ensures received { IfOk result (λ work. rows_of work ≡ replicate 208 (replicate 182 0)) }
@@ -70,7 +75,9 @@ impl Work {
         self.stage
     }
 
-    /// Sets the stage, and all else stays. Where it says that something was found, that is in the buffers.
+    /// Sets the stage, and all else stays. Where it says that something was found, that is in the buffers: a caller
+    /// proves it, and nothing is tested here. Nothing is asked for Empty and Fetched. It is public for dvd_read and
+    /// dvd_par, which decode.
     pub fn set_stage(&mut self, stage: Stage)
         requires answered { HasAnswers stage → AreAnswers (rows_of self.old) (marks_of_work self.old) (answers_of_work self.old) }
         requires refused { stage ≡ Refused → HasNoTwoPass (rows_of self.old) (marks_of_work self.old) }
@@ -85,7 +92,8 @@ impl Work {
         self.stage = stage;
     }
 
-    /// Receives this block with no marks.
+    /// Receives this block with no marks, as if it were read from an undamaged disk. It is for
+    /// `exercise`, as `damage` is: that command reads no capture.
     pub fn load_block(&mut self, block: &Block)
         ensures stage { stage_of self.new ≡ Fetched }
         ensures received { rows_of self.new ≡ block_rows block.now }
@@ -94,13 +102,15 @@ impl Work {
         ensures columns { self.new.columns ≡ self.old.columns }
         ensures sectors { self.new.sectors ≡ self.old.sectors }
     {
+        // At stage Empty the rows and marks may be set one after the other.
         self.set_stage(Stage::Empty);
         self.received.set_rows(block.lines.rows());
         self.marks.clear();
         self.set_stage(Stage::Fetched);
     }
 
-    /// Sets the received byte in row `i` at place `j` and its mark. All others stay.
+    /// Sets the received byte in row `i` at place `j` and its mark. All others stay. `width` says what the type does:
+    /// the prover doesn't know the length of an array in a list.
     pub fn damage(&mut self, i: usize, j: usize, byte: u8, mark: bool)
         requires stage { HasBlock (stage_of self.old) }
         requires row { i < 208 }
@@ -119,7 +129,7 @@ impl Work {
         self.marks.set(i, j, mark);
     }
 
-    /// The received byte in row `i` at place `j`.
+    /// The received byte in row `i` at place `j`. This and `marked` are for `exercise`; decoders read rows.
     pub fn received(&self, i: usize, j: usize) -> u8
         requires stage { HasBlock (stage_of self.now) }
         requires row { i < 208 }
@@ -168,7 +178,8 @@ impl Work {
         self.answers.rows()[i].fix
     }
 
-    /// Byte `j` of the codeword near row `i`.
+    /// Byte `j` of the codeword near row `i`. A failed row has none, which a clause excludes. No code calls it: a
+    /// survey asks for `answer` alone, and decoders read the buffer.
     pub fn answer_byte(&self, i: usize, j: usize) -> u8
         requires stage { HasAnswers (stage_of self.now) }
         requires row { i < 208 }
@@ -179,7 +190,8 @@ impl Work {
         self.answers.rows()[i].bytes[j]
     }
 
-    /// The byte in row `i` at place `j` of the block that has two-pass agreement.
+    /// The byte in row `i` at place `j` of the block that has two-pass agreement. It is kept by columns. The C library
+    /// asks for it; commands read the sectors, which a decoder has written.
     pub fn block_byte(&self, i: usize, j: usize) -> u8
         requires stage { stage_of self.now ≡ Fixed }
         requires row { i < 208 }
@@ -190,7 +202,7 @@ impl Work {
         self.columns.all()[j].bytes[i]
     }
 
-    /// The 2,048 bytes of sector `f`.
+    /// The 2,048 bytes of sector `f`. They may be asked for at any stage: no stage says what the sectors are.
     pub fn sector(&self, f: usize) -> &[u8]
         requires { f < 16 }
         ensures value { result.now ≡ line (sectors_of self.now) f }
@@ -207,7 +219,8 @@ impl Work {
         self.sectors.first(count)
     }
 
-    /// Sets the sixteen sectors to zeros. All else stays.
+    /// Sets the sixteen sectors to zeros. All else stays. Decoders call it after a block is refused, so that no sector
+    /// of an earlier block is left.
     pub fn blank(&mut self)
         ensures sectors { sectors_of self.new ≡ replicate 16 (replicate 2048 0) }
         ensures stage { stage_of self.new ≡ stage_of self.old }

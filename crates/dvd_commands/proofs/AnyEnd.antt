@@ -6,8 +6,8 @@ use Rattle.dvd_loop.specs.declared.ends.LoopEnd.TheVariants.{ReadFault}
 use Rattle.dvd_loop.proofs.Faults.{ends_there, leave_fronts}
 use Rattle.dvd_commands.proofs.Pieces.{front-part}
 
--- It is so where no fault ended the loop, and of the bytes that came before a failed read; else the output is the front of one
--- that it is so of.
+-- It is so where no fault ended the loop, and of the bytes that came before a failed read; else the output is the front
+-- of one that it is so of.
 pub record AtAnyEnd (Gives : List ℕ → List ℕ → Type 0) (bytes : List ℕ) (a : Outcome) : Type 0 where
   pub at_place : IsFaultless a.end → Gives bytes a.out
   pub received : a.end ≡ ReadFault → Gives a.taken a.out

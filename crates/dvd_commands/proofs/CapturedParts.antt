@@ -1,4 +1,5 @@
--- How bytes begin, from the first of a captured block on: it stays so whatever follows, and a whole block breaks no rule.
+-- How bytes begin, from the first of a captured block on: it stays so whatever follows, and a whole block breaks no
+-- rule.
 use Rattle.std.proofs.Common.{◌≡◌, ◌⊎◌, inl, inr, ℕ, ◌+◌, ◌-◌, ◌*◌, ◌<◌, ◌≤◌, List, [], ◌++◌, length, length-append, take, drop, Some, None, refl, ap, sym, subst, ◌∙◌, append-nil, arith}
 use Rattle.std.proofs.lemmas.Bool.{cases_lt}
 use Rattle.std.proofs.lemmas.List.{length-take-le, take-append-drop}

@@ -13,8 +13,9 @@ use Rattle.dvd_words.specs.declared.table.Command.{Command}
 use Rattle.dvd_words.specs.declared.table.Command.TheVariants.{CdMake}
 use Rattle.dvd_words.specs.declared.settings.Settings.{Settings}
 
--- Its runs over the same bytes do the same; over bytes it has one, where no rule is broken and the addresses of the sectors
--- that `cdmake` makes exist; other workers change none; and lengths that are those of a layout break no rule of it.
+-- Its runs over the same bytes do the same; over bytes it has one, where no rule is broken and the addresses of the
+-- sectors that `cdmake` makes exist; other workers change none; and lengths that are those of a layout break no rule of
+-- it.
 pub record RunFacts (command : Command) : Type 0 where
   pub once : (settings : Settings) (bytes : List ℕ) → RunsOnce (GoesBy (meaning command) settings bytes)
   pub some : (settings : Settings) (bytes : List ℕ) → HasBytes 6 settings.cpr → All IsByte bytes → (meaning command).breaks settings ≡ None

@@ -1,4 +1,9 @@
 //! The command `assemble`: scattered recording frames put in order.
+//!
+//! The home of a frame is the block, and the place in it, that the frame's own first row names. A frame without a home
+//! is a stray, and is joined to nothing. The shelf has what is known of all blocks of the Data Zone, since the last
+//! frame may belong to the first block. So blocks are written only when all frames have come. Clauses `causes` say by
+//! the counts of a stream that the call that failed, where one did, was its last.
 ghost use Rattle.std.specs.Prelude.{◌≡◌, ◌+◌, ◌<◌, ◌≤◌, ℕ, length, replicate, IsErr, IfErr, OnOk};
 ghost use Rattle.std.specs.Option.{option_map_or};
 ghost use Rattle.dvd_assemble.specs.Assembled.{settled};
@@ -31,6 +36,7 @@ use dvd_report::Line;
 use dvd_words::{Command, Settings};
 
 /// How many frames there are, how many of those that came have a home, and the memory of one frame and of all blocks.
+/// `sized`: the form is plain or marked. A single frame has no listed form.
 #[derive(Drop)]
 struct Assembling<'a> {
     layout: Layout,
@@ -43,6 +49,10 @@ struct Assembling<'a> {
     ghost sized: { HasSize form },
 }
 
+// The clauses of these methods are in the trait: together they do what `assemble_units` says. `key` is what these units
+// depend on; no method changes it. `ready` is what holds between frames: the shelf and the count are those of the
+// frames before. `left` says what the end leaves to the caller, here nothing. It is no `PlainCommand`, since all is
+// written at the close. `Processed` is the kind of a unit, or how the loop ends in it.
 impl<'a, S: Source, K: Sink, E: Sink> UnitCommand<S, K, E> for Assembling<'a> {
     ghost Key = { DiskLayout × CaptureForm × ℕ };
 
@@ -76,16 +86,21 @@ impl<'a, S: Source, K: Sink, E: Sink> UnitCommand<S, K, E> for Assembling<'a> {
     // Before one more byte is requested, so that the line is true of what was written even if the input is too long.
     fn close(&self, out: &mut K, report: &mut E) -> Result<(), LoopEnd> {
         write_blocks(self.shelf, out)?;
+        // No more are placed than there are frames. But the trait lets `close` be called at any time, so the difference
+        // has to have a value always.
         let line = placed_line(self.placed, self.frames.saturating_sub(self.placed));
         match write_whole(report, line.as_slice()) {
             Ok(()) => Ok(()),
+            // Named here: `?` would make `WriteFault` of it, which is a fault of the output.
             Err(WriteFault) => Err(LoopEnd::ReportFault),
         }
     }
 }
 
 /// Puts the recording frames that the settings count in order. The shelf has the data blocks of the layout that the
-/// settings choose, and nothing is known of any of their bytes yet.
+/// settings choose, and nothing is known of any of their bytes yet. It is public for callers with buffers of their own,
+/// of which nothing is promised afterwards. `IsLayoutOf`: the layout is the one that the settings ask for, made once by
+/// the caller; `HasSize`: the form is plain or marked.
 pub fn assemble_loop<S: Source, K: Sink, E: Sink>(
     settings: &Settings,
     layout: &Layout,
@@ -114,7 +129,8 @@ pub fn assemble_loop<S: Source, K: Sink, E: Sink>(
     run_units(&mut assembling, src, out, report)
 }
 
-/// The command with its buffers, or why it doesn't begin.
+/// The command with its buffers, or why it doesn't begin. The layout is tried before memory is taken: a broken rule is
+/// what a user can put right.
 pub(crate) fn run_assemble<S: Source, K: Sink, E: Sink>(
     start: &Start<'_>,
     src: &mut S,
@@ -131,13 +147,16 @@ pub(crate) fn run_assemble<S: Source, K: Sink, E: Sink>(
 {
     let settings = start.settings;
     let layout = settings.layout()?;
+    // At most 1,024 blocks, by `few`, so 16 bits hold their number. `few` bounds the memory, of 75,712 bytes a block. A
+    // frame is small, and has its place on the stack.
     let mut shelf = Shelf::new(start.alloc, layout.blocks(Zones::DataOnly) as u16)?;
     let mut frame = FrameWork::new();
     Ok(assemble_loop(settings, &layout, &mut shelf, &mut frame, src, out, report))
 }
 
 // Reads frame `k`, or answers how the loop ends within it.
-// `fetch_frame` knows no loop, so its answers become ends here, which name the frame.
+// `fetch_frame` knows no loop, so its answers become ends here, which name the frame. A frame that isn't whole leaves
+// the one before in the buffer, and the loop ends. Plain and marked frames break no rule, so `BadMarks` doesn't come.
 fn read_frame<S: Source>(
     src: &mut S,
     k: u32,
@@ -158,7 +177,7 @@ fn read_frame<S: Source>(
     }
 }
 
-// Joins a frame to its home. Answers 1, or 0 for a stray.
+// Joins a frame to its home. Answers 1, or 0 for a stray, which changes nothing: a number, since the caller adds it up.
 fn settle_frame(layout: &Layout, frame: &FrameWork, shelf: &mut Shelf) -> u32
     requires { length (tables_of shelf.old) ≡ length (plan_of layout.now DataOnly) }
     ensures count { result ≡ option_map_or (λ n. 1) (home layout.now (captured frame.now)) 0 }
@@ -170,7 +189,8 @@ fn settle_frame(layout: &Layout, frame: &FrameWork, shelf: &mut Shelf) -> u32
     }
 }
 
-// In the order of the plan, whatever the order of the frames was, and marked where no frame gave a row.
+// In the order of the plan, whatever the order of the frames was, and marked where no frame gave a row. Each block is
+// written, even one without any frame, so that the output is a whole capture.
 fn write_blocks<K: Sink>(shelf: &Shelf, out: &mut K) -> Result<(), WriteFault>
     ensures { IsWritten (text_of (tables_of shelf.now)) (K.seen out.old) (K.seen out.new) result }
 {
@@ -180,6 +200,8 @@ fn write_blocks<K: Sink>(shelf: &Shelf, out: &mut K) -> Result<(), WriteFault>
     Ok(())
 }
 
+// The line goes to the report, since the output is a capture and nothing else. `unfolding` is for the checker: it opens
+// the definition that the clause names.
 #[tactic(auto, unfolding(crate::specs::Assemble::placed_line))]
 fn placed_line(placed: u32, strays: u32) -> Line
     ensures { result ≡ placed_line placed strays }

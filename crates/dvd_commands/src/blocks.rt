@@ -5,7 +5,8 @@ ghost use Rattle.dvd_layout.specs.Plan.{plan_of};
 
 use dvd_layout::{BlockPlan, Layout, Zones};
 
-/// Which blocks a command goes over: those of the plan of a layout and of these zones.
+/// Which blocks a command goes over: those of the plan of a layout and of these zones. The layout is copied into it: it
+/// is a few numbers.
 #[derive(Drop)]
 pub(crate) struct Blocks {
     pub layout: Layout,
@@ -13,7 +14,7 @@ pub(crate) struct Blocks {
 }
 
 impl Blocks {
-    /// How many there are.
+    /// How many there are. By the rules of layouts a plan has fewer than 2^32 blocks, so the loop counts in 32 bits.
     pub fn count(&self) -> u32
         ensures { result ≡ length (plan_of self.now.layout self.now.zones) }
     {

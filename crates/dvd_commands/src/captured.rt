@@ -1,4 +1,9 @@
 //! Captured blocks, as the commands that read a stream of them use them.
+//! `Work` is the memory of one: its received rows and marks, what two passes made of them, and its sixteen sectors. Its
+//! stage says what of these there is: `HasBlock`, a block was received; `HasAnswers`, its rows were decoded too.
+//! `HasNumbers` says that the numbers of an entry's sixteen sectors have 24 bits, as those of every plan have.
+//! `AreDone` says which steps, writes and lines, are done for a unit; where a call fails, only a first part of them is.
+//! Clauses `causes` say by the counts of a stream that the call that failed, where one did, was its last.
 ghost use Rattle.std.specs.Prelude.{◌≤◌, IfErr, OnOk};
 ghost use Rattle.dvd_capture.specs.Captured.{Captures};
 ghost use Rattle.dvd_capture.specs.Rule.{HasAnswers, HasBlock};
@@ -17,7 +22,8 @@ use dvd_ports::{Sink, Source, WriteFault, write_whole};
 use dvd_read::{Cause, salvage};
 use dvd_report::write_cause;
 
-/// Block `k` of the stream, with its entry in the plan of the layout.
+/// Block `k` of the stream, with its entry in the plan of the layout. One value, since they go from call to call
+/// together: `k` names the block in lines, and the layout says how many of its sectors belong to the image.
 #[derive(Drop)]
 pub(crate) struct Planned<'a> {
     pub layout: &'a Layout,
@@ -26,7 +32,8 @@ pub(crate) struct Planned<'a> {
 }
 
 /// Reads captured block `k`, or answers how the loop ends within it.
-/// `fetch` knows no loop, so its answers become ends here, which name the block.
+/// `fetch` knows no loop, so its answers become ends here, which name the block. Where it isn't whole, the work has no
+/// block. Marks break a rule in the listed form alone.
 pub(crate) fn fetch_block<S: Source>(
     src: &mut S,
     k: u32,
@@ -49,7 +56,8 @@ pub(crate) fn fetch_block<S: Source>(
 
 /// Reports the line of a block that is refused for this cause, and writes its image sectors: those that are salvaged,
 /// and zeros for the others.
-/// It salvages first, since the line says how many frames are saved, and the line goes out before any sector.
+/// It salvages first, since the line says how many frames are saved, and the line goes out before any sector. The
+/// sectors of the work are overwritten; its received rows and marks stay. `recover` and `deep` share it.
 pub(crate) fn refuse_block<K: Sink, E: Sink>(
     block: &Planned<'_>,
     cause: &Cause,
@@ -63,6 +71,7 @@ pub(crate) fn refuse_block<K: Sink, E: Sink>(
         (streams source (K.seen out.old) (E.seen report.old)) (streams source (K.seen out.new) (E.seen report.new)) result }
 {
     let saved = salvage(work, block.entry);
+    // Named here: `?` would make `WriteFault` of it, which is a fault of the output.
     if let Err(WriteFault) = write_cause(u64::from(block.k), block.entry, cause, saved, report) {
         return Err(LoopEnd::ReportFault);
     }
@@ -71,7 +80,7 @@ pub(crate) fn refuse_block<K: Sink, E: Sink>(
 }
 
 /// Writes the first sectors, one after the other.
-/// Only those of the image: the last block of a layer may have fewer than sixteen.
+/// Only those of the image: its last block may have fewer than sixteen.
 pub(crate) fn write_sectors<K: Sink>(
     work: &Work,
     count: usize,
@@ -84,7 +93,8 @@ pub(crate) fn write_sectors<K: Sink>(
 }
 
 /// Writes the sectors in these bytes, each by a `write_whole` of its own. After a fault a prefix of the bytes was
-/// written.
+/// written. Callers have whole sectors; what is left after these would go out as a shorter piece. `IsWritten` is of all
+/// bytes together, so it holds for any number of pieces.
 pub(crate) fn write_each<K: Sink>(sectors: &[u8], out: &mut K) -> Result<(), WriteFault>
     ensures { IsWritten sectors.now (K.seen out.old) (K.seen out.new) result }
 {

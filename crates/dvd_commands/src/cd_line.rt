@@ -1,11 +1,12 @@
-//! The line of a damaged CD-ROM sector.
+//! The line of a damaged CD-ROM sector. `unfolding` is for the checker: it opens a definition that a clause names.
 ghost use Rattle.std.specs.Prelude.{◌≡◌, ◌+◌, ◌≤◌, ◌++◌, length};
 ghost use Rattle.dvd_commands.specs.CdLines.{cd_cause_text, damaged_sector_line as line_of_sector};
 
 use cd_sector::CdCause;
 use dvd_report::Line;
 
-/// The line that names sector `k` of the input and its first cause: `sector K: CAUSE` and a line feed.
+/// The line that names sector `k` of the input and its first cause: `sector K: CAUSE` and a line feed. `k` counts from
+/// 0, as its sector of user data does in the output.
 #[tactic(auto, unfolding(crate::specs::CdLines::damaged_sector_line))]
 pub fn damaged_sector_line(k: u32, cause: CdCause) -> Line
     ensures { result ≡ line_of_sector k cause }
@@ -18,6 +19,8 @@ pub fn damaged_sector_line(k: u32, cause: CdCause) -> Line
     line
 }
 
+// The longest is that of a parity word: 7 bytes and a number of up to 20 digits. An address has six hexadecimal digits,
+// which are minute, second and frame.
 #[tactic(auto, unfolding(crate::specs::CdLines::cd_cause_text))]
 fn put_cause(line: &mut Line, cause: CdCause)
     requires room { length line.old + 27 ≤ 256 }

@@ -1,4 +1,5 @@
-//! The command `cdmake`: a CD-ROM sector of Mode 1 for each sector of user data.
+//! The command `cdmake`: a CD-ROM sector of Mode 1 for each sector of user data. Only what is made of a sector differs
+//! from `frames`, so both go by `make_each`. It has no layout and takes no memory, so it can't be refused.
 ghost use Rattle.dvd_loop.specs.Laws.{IsPlainEnd};
 ghost use Rattle.dvd_loop.specs.Machine.{IsOutcome};
 ghost use Rattle.dvd_loop.specs.Streams.{streams, HasEnded};
@@ -11,7 +12,8 @@ use dvd_ports::{Sink, Source};
 use dvd_words::Settings;
 
 /// Makes a CD-ROM sector for each of `settings.sectors` sectors of 2,048 bytes, with addresses from `settings.address`
-/// on.
+/// on. It is public for callers without arguments; dvd_top hands it on. `HasAddresses`: no address reaches 450,000,
+/// which is minute 100, as a header has two digits for minutes.
 pub fn cdmake_loop<S: Source, K: Sink>(settings: &Settings, src: &mut S, out: &mut K) -> LoopEnd
     requires { HasAddresses settings.now }
     ensures follows { (report : Seen) → HasEnded (IsOutcome (cdmake_units settings.now.address settings.now.sectors))

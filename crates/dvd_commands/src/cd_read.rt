@@ -1,4 +1,7 @@
 //! The command `cdread`: the user data of CD-ROM sectors of Mode 1.
+//! Such a sector has 2,352 bytes: 12 of sync, 4 of header with address and mode, 2,048 of user data, and then EDC and
+//! parity. The command has no layout and takes no memory, so it can't be refused. `AreDone` says which steps, writes
+//! and lines, are done for a unit; where a call fails, only a first part of them is.
 ghost use Rattle.std.specs.Prelude.{◌+◌, ◌<◌, ◌≤◌, ℕ, refl};
 ghost use Rattle.dvd_loop.specs.Laws.{IsDamageEnd};
 ghost use Rattle.dvd_loop.specs.Machine.{IsOutcome};
@@ -14,7 +17,8 @@ use dvd_loop::{LoopEnd, PlainCommand, Processed, UnitKind, read_unit, run_plain}
 use dvd_ports::{Sink, Source, WriteFault, write_whole};
 use dvd_words::Settings;
 
-/// The sectors that are read: the address of the first, and how many.
+/// The sectors that are read: the address of the first, and how many. By `within` no address reaches 450,000, which is
+/// minute 100: a header has two digits for it.
 #[derive(Drop)]
 struct CdRead {
     address: u32,
@@ -22,6 +26,9 @@ struct CdRead {
     ghost within: { address + sectors ≤ 450000 },
 }
 
+// The clauses of these methods are in the trait: for sector `k` they do what `cdread_units` says, and nothing opens or
+// closes the units (`alone`). `key` is what the units depend on; no method changes it. A `PlainCommand` has units that
+// don't depend on each other; `Processed` is the kind of one, or how the loop ends in it.
 impl<S: Source, K: Sink, E: Sink> PlainCommand<S, K, E> for CdRead {
     ghost Key = { ℕ × ℕ };
 
@@ -35,6 +42,7 @@ impl<S: Source, K: Sink, E: Sink> PlainCommand<S, K, E> for CdRead {
         self.sectors
     }
 
+    // The sector is on the stack, since the command takes no memory. `within` keeps the address in range.
     fn process(&mut self, k: u32, src: &mut S, out: &mut K, report: &mut E) -> Processed {
         let mut sector = [0; 2352];
         read_unit(src, k, &mut sector)?;
@@ -43,7 +51,8 @@ impl<S: Source, K: Sink, E: Sink> PlainCommand<S, K, E> for CdRead {
 }
 
 /// Gives the user data of `settings.sectors` CD-ROM sectors with addresses from `settings.address` on, each repaired. A
-/// line names each that stays wrong, and zeros are written in its place.
+/// line names each that stays wrong, and zeros are written in its place. It is public for callers without arguments;
+/// dvd_top hands it on. `HasAddresses` is `within` of the settings.
 pub fn cdread_loop<S: Source, K: Sink, E: Sink>(
     settings: &Settings,
     src: &mut S,
@@ -64,7 +73,8 @@ pub fn cdread_loop<S: Source, K: Sink, E: Sink>(
 }
 
 // Repairs a sector and writes its user data; or reports its first cause and writes zeros.
-// The line goes first, so that whoever reads the report knows of the zeros.
+// The line goes first, so that whoever reads the report knows of the zeros. With them the sectors after this one keep
+// their places in the output.
 fn give_sector<K: Sink, E: Sink>(
     address: u32,
     k: u32,
@@ -77,11 +87,13 @@ fn give_sector<K: Sink, E: Sink>(
         (streams source (K.seen out.old) (E.seen report.old)) (streams source (K.seen out.new) (E.seen report.new)) result }
 {
     match repair(sector, address) {
+        // How many bytes were repaired isn't reported: a sector that is given has no line.
         Ok(_) => {
             write_whole(out, &sector[16..2064])?;
             Ok(UnitKind::Good)
         }
         Err(cause) => {
+            // Named here: `?` would make `WriteFault` of it, which is a fault of the output.
             if let Err(WriteFault) = write_whole(report, damaged_sector_line(k, cause).as_slice()) {
                 return Err(LoopEnd::ReportFault);
             }

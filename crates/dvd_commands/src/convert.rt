@@ -1,4 +1,6 @@
 //! The command `convert`: captured blocks in the listed form, after the header that states their layout.
+//! Nothing is decoded, and bytes and marks stay: only the marks are written otherwise, as runs. So a block can't be
+//! refused, and of the plan only the number of blocks counts.
 ghost use Rattle.std.specs.Prelude.{◌≡◌, length, IsErr};
 ghost use Rattle.dvd_capture.specs.Captured.{HasSize};
 ghost use Rattle.dvd_capture.specs.Header.{header_bytes};
@@ -35,6 +37,10 @@ struct Converting<'a> {
     work: &'a mut Work,
 }
 
+// The clauses of these methods are in the trait: together they do what `convert_units` says. `key` is what these units
+// depend on, here the header too, with which the output opens; no method changes it. `ready` and `left` say nothing,
+// since a block doesn't depend on those before, and the caller needs nothing afterwards. It is no `PlainCommand`, since
+// a header opens the output. `Processed` is the kind of a unit, or how the loop ends in it.
 impl<'a, S: Source, K: Sink, E: Sink> UnitCommand<S, K, E> for Converting<'a> {
     ghost Key = { DiskLayout × WhichZones × CaptureForm × CaptureHeader };
 
@@ -62,6 +68,8 @@ impl<'a, S: Source, K: Sink, E: Sink> UnitCommand<S, K, E> for Converting<'a> {
         Ok(())
     }
 
+    // A block is written only when it is whole. Plain and marked blocks break no rule, so that reading ends the run
+    // only where the input ends or a read fails.
     fn process(&mut self, k: u32, src: &mut S, out: &mut K, _report: &mut E) -> Processed {
         fetch_block(src, k, self.form, self.work)?;
         write_listed(self.work, out)?;
@@ -74,7 +82,9 @@ impl<'a, S: Source, K: Sink, E: Sink> UnitCommand<S, K, E> for Converting<'a> {
 }
 
 /// Writes the header of the layout and of the zones that the settings choose, and then each captured block as a listed
-/// one.
+/// one. The input is in the plain or the marked form (`form`): a listed capture has nothing to convert. It is public
+/// for callers with buffers of their own, of which nothing is promised afterwards. `IsLayoutOf`: the layout is the one
+/// that the settings ask for, made once by the caller; `HasSize`: the form is plain or marked.
 pub fn convert_loop<S: Source, K: Sink>(
     settings: &Settings,
     layout: &Layout,
@@ -97,10 +107,12 @@ pub fn convert_loop<S: Source, K: Sink>(
         header: header_of(layout, settings.zones),
         work,
     };
+    // The loop wants a report, but this command writes none.
     run_units(&mut converting, src, out, &mut NullSink::new())
 }
 
-/// The command with its buffers, or why it doesn't begin.
+/// The command with its buffers, or why it doesn't begin. The layout is tried before memory is taken: a broken rule is
+/// what a user can put right.
 pub(crate) fn run_convert<S: Source, K: Sink>(
     start: &Start<'_>,
     src: &mut S,

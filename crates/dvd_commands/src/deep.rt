@@ -1,4 +1,14 @@
 //! The command `deep`: image sectors from a stream of captured blocks, by rounds where two passes refuse a block.
+//! It repeats the form of `recover`, so that who reads one doesn't need the other.
+//!
+//! A round is one step over the rows of a block and one over its columns; there are at most four. `Deep` is the memory
+//! of rounds, and `Piece` that of the sixteen sectors which they give. `Work` is that of the captured block, whose
+//! received rows and marks stay: so what two passes made of them is still there to be salvaged when rounds fail. All is
+//! done by one thread, since `deep` has no option for workers.
+//!
+//! In the clauses `IsLayoutOf` says that the layout is the one that the settings ask for, `HasBlock` that the work
+//! holds a received block, and `HasNumbers` that the sector numbers of an entry have 24 bits. `AreDone` says which
+//! steps, writes and lines, are done for a unit; where a call fails, only a first part of them is.
 ghost use Rattle.std.specs.Prelude.{◌≡◌, length, Some, IfErr, IfOk, IsErr, refl};
 ghost use Rattle.dvd_ports.specs.Seen.{Seen};
 ghost use Rattle.dvd_block.specs.Buffers.{piece_bytes};
@@ -47,6 +57,9 @@ struct Deepening<'a> {
     work: &'a mut Work,
 }
 
+// The clauses of these methods are in the trait: for block `k` they do what `deep_units` says, and nothing opens or
+// closes the units (`alone`). `key` is what the units depend on; no method changes it. A `PlainCommand` has units that
+// don't depend on each other; `Processed` is the kind of one, or how the loop ends in it.
 impl<'a, S: Source, K: Sink, E: Sink> PlainCommand<S, K, E> for Deepening<'a> {
     ghost Key = { DiskLayout × WhichZones × CaptureForm };
 
@@ -76,6 +89,8 @@ impl<'a, S: Source, K: Sink, E: Sink> PlainCommand<S, K, E> for Deepening<'a> {
 /// Reads every block of the plan of the layout and the zones that the settings choose, by rounds where two passes
 /// refuse it, and writes its image sectors. A line names each that is refused; zeros are written for its sectors that
 /// aren't salvaged.
+/// It is public for callers with buffers of their own. What these held before doesn't matter, and nothing is promised
+/// of them afterwards.
 pub fn deep_loop<S: Source, K: Sink, E: Sink>(
     settings: &Settings,
     layout: &Layout,
@@ -120,6 +135,7 @@ pub(crate) fn run_deep<S: Source, K: Sink, E: Sink>(
     ensures untouched { IsErr result → (src.new ≡ src.old) × (out.new ≡ out.old) × (report.new ≡ report.old) }
 {
     let settings = start.settings;
+    // The layout is tried before memory is taken: a broken rule is what a user can put right.
     let worded = layout_from_arguments(settings)?;
     let mut deep = Deep::new(start.alloc)?;
     let mut piece = Piece::new(start.alloc)?;
@@ -135,12 +151,14 @@ pub(crate) fn run_deep<S: Source, K: Sink, E: Sink>(
             out,
             report,
         )),
+        // The run ended in the header of its input. It did begin, so this is an end and no refusal.
         Err(end) => Ok(end),
     }
 }
 
 // Reads a block of image sectors and writes them, after the line of its round where two passes refused it. Or it
-// reports its cause, and writes those that are salvaged and zeros for the others. Any other block is passed over.
+// reports its cause, and writes those that are salvaged and zeros for the others. Any other block is passed over,
+// undecoded: nothing of it goes to the image.
 fn deep_block<K: Sink, E: Sink>(
     block: &Planned<'_>,
     deep: &mut Deep,
@@ -159,12 +177,15 @@ fn deep_block<K: Sink, E: Sink>(
         Content::Image(_) => {}
         Content::Zero | Content::Reference | Content::Control => return Ok(UnitKind::Good),
     }
+    // Sixteen, or fewer in the last block of the image: what fills that block up isn't written.
     let count = block.layout.image_sectors(entry.content);
     match read_block(work, entry) {
+        // What was fixed isn't reported: a block that two passes determine has no line.
         Ok(_) => {
             write_sectors(work, count, out)?;
             Ok(UnitKind::Good)
         }
+        // Rounds are for refused blocks alone: one that two passes determine is given as `recover` gives it.
         Err(cause) => match search_block(entry, cause, deep, work, piece) {
             Ok(round) => give_back(
                 block.k,
@@ -181,7 +202,8 @@ fn deep_block<K: Sink, E: Sink>(
 
 // Searches by rounds for a block that was refused for this cause. Answers the round that gave it back with right
 // frames, with its Main Data in the piece; or why it is still refused.
-// Where rounds find nothing the cause of the two passes stays, as `recover` reports it.
+// Where rounds find nothing the cause of the two passes stays, as `recover` reports it. Where they find a block with a
+// wrong frame, the cause is that of the frame. The piece has no sectors then.
 fn search_block(
     entry: &BlockPlan,
     cause: Cause,
@@ -218,6 +240,7 @@ fn give_back<K: Sink, E: Sink>(
     ensures { (source : Seen) → AreDone (TellsAndWrites (round_line k entry.now round) sectors.now Good)
         (streams source (K.seen out.old) (E.seen report.old)) (streams source (K.seen out.new) (E.seen report.new)) result }
 {
+    // Named here: `?` would make `WriteFault` of it, which is a fault of the output.
     if let Err(WriteFault) = write_round(u64::from(k), entry, round, report) {
         return Err(LoopEnd::ReportFault);
     }

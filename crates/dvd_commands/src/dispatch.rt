@@ -28,6 +28,7 @@ use std::thread::Threads;
 
 /// The loop of the command that the settings name, or why it doesn't begin.
 /// The one place that names every command's function. What all of them begin with is put together here.
+/// Where it doesn't begin, input, output and report are untouched. The closing line is the caller's.
 pub fn perform<R: Threads + Sync, S: Source, K: Sink, E: Sink, G: Gate>(
     workers: &Workers<'_, R, G>,
     alloc: Global,
@@ -42,6 +43,9 @@ pub fn perform<R: Threads + Sync, S: Source, K: Sink, E: Sink, G: Gate>(
         (streams (S.seen src.new) (K.seen out.new) (E.seen report.new)) result }
     ensures untouched { IsErr result → (src.new ≡ src.old) × (out.new ≡ out.old) × (report.new ≡ report.old) }
 {
+    // Three commands take no memory and have no layout, so they always begin. Those without `report` write no line of
+    // their own, and those without `workers` work with one thread. The bounds that each asks of the settings, as at
+    // most sixteen workers or captures, are in `IsValid`: reading the arguments ensures them.
     let start = Start { alloc, settings };
     match settings.command {
         Command::Frames => Ok(frames_loop(settings, src, out)),

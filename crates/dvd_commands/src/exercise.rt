@@ -1,4 +1,16 @@
 //! The command `exercise`: blocks that are drawn from a number, damaged within the bound, and read back.
+//! The bound is what the two passes of decoding always correct, so every block has to come back whole. The last block
+//! stays in the work.
+//!
+//! `rand` is the generator: its state, of 64 bits, begins as the seed plus 1, since from 0 only zeros would be drawn,
+//! and each block is drawn from the state that the block before left. So the same seed gives the same blocks. `Block`
+//! is the memory of 208 rows as they are made, `Piece` that of the sixteen sectors that were drawn, and `Work` that of
+//! the block as it is received and read.
+//!
+//! In the clauses `IsEntry` says that an entry is one of the plan of the layout, `HasBlock` that the work holds a
+//! received block, and `HasNumbers` that the sector numbers of an entry have 24 bits. `MayWork` and `MayRead` say that
+//! the runtime and the gate may be shared with threads, and that there are 1 to 16 workers; `IsAdder` and `IsReader`
+//! that a call of the closure does what `add_parity` or `read_block` does.
 ghost use Rattle.std.specs.Thread.{IsSync};
 ghost use Rattle.std.specs.Prelude.{◌≡◌, ◌⊎◌, ◌+◌, ◌-◌, ◌*◌, ◌<◌, ◌≤◌, ◌^◌, ℕ, length, None, replicate, false, true, IsErr};
 ghost use Rattle.std.specs.Str.{bytes_eq};
@@ -48,7 +60,9 @@ struct Counts {
 }
 
 impl Counts {
-    // Counts a block that was read, and whether it gave back what was drawn.
+    // Counts a block that was read, and whether it gave back what was drawn. A block adds less than 2^32 bytes and 2^16
+    // rows, as their types say; at most 4,096 blocks are counted, so the sums keep far below 2^64. 4,096 is the limit
+    // of the option; nothing here needs one so low.
     fn add(&mut self, fixed: Fixed, is_whole: bool)
         requires whole_room { self.old.whole < 4096 }
         requires fixed_room { self.old.fixed ≤ 4096 * 2 ^ 32 }
@@ -68,8 +82,8 @@ impl Counts {
     }
 }
 
-// Its seed and its blocks, the state that the next is drawn from, what was found so far, how a block gets its parity and
-// is read, and the memory of one block.
+// Its seed and its blocks, the state that the next is drawn from, what was found so far, how a block gets its parity
+// and is read, and the memory of one block.
 #[derive(Drop)]
 struct Exercise<'a, 'r, A, F> {
     seed: u32,
@@ -88,6 +102,11 @@ struct Exercise<'a, 'r, A, F> {
     ghost sectors: { layout.sectors0 ≡ 16 * blocks },
 }
 
+// The clauses of these methods are in the trait: together they do what `exercise_units` says. `key` is what these units
+// depend on; no method changes it. `ready` is what holds between blocks: generator and counts are those of the blocks
+// before. `left` is what the end leaves to the caller: the last block, read back. It is no `PlainCommand`: each block
+// goes on from the one before, and a line closes the run. `Processed` is the kind of a unit, or how the loop ends in
+// it.
 impl<'a, 'r, A: Fn(&mut Block), F, S: Source, K: Sink, E: Sink> UnitCommand<S, K, E>
     for Exercise<'a, 'r, A, F>
 where
@@ -109,6 +128,7 @@ where
         self.blocks
     }
 
+    // It reads nothing, so that no end of an input is looked for.
     fn after_last(&self) -> AfterLast {
         AfterLast::Done
     }
@@ -117,6 +137,7 @@ where
         Ok(())
     }
 
+    // Nothing is read or written for a block. All are Good: one that didn't come back would only be missing in `whole`.
     fn process(&mut self, k: u32, _src: &mut S, _out: &mut K, _report: &mut E) -> Processed {
         let entry = self.layout.plan(Zones::DataOnly, u64::from(k));
         draw_block(
@@ -138,6 +159,7 @@ where
         Ok(UnitKind::Good)
     }
 
+    // The line is the result, so it goes to the output.
     fn close(&self, out: &mut K, _report: &mut E) -> Result<(), LoopEnd> {
         let line = exercise_line(self.seed, self.blocks, &self.counts);
         write_whole(out, line.as_slice())?;
@@ -145,7 +167,8 @@ where
     }
 }
 
-// What the trials of a run go by: what makes its workers, and its settings.
+// What the trials of a run go by: what makes its workers, and its settings. One value, as `Drawing` is, so that the
+// calls below have fewer parameters.
 #[derive(Drop)]
 struct Setup<'a, R, G> {
     workers: &'a Workers<'a, R, G>,
@@ -162,7 +185,9 @@ struct Drawing<'r, A, F> {
     read: &'r F,
 }
 
-/// Draws, damages and reads back `settings.blocks` blocks, from 1 to 4,096. The work then holds the last of them.
+/// Draws, damages and reads back `settings.blocks` blocks, from 1 to 4,096. The work then holds the last of them, even
+/// where the line couldn't be written. It takes no input, and so hands on an empty one. It is public for callers with
+/// buffers of their own; the block and the piece are scratch.
 pub fn exercise_loop<R: Threads + Sync, K: Sink, G: Gate>(
     rt: &R,
     settings: &Settings,
@@ -207,6 +232,7 @@ fn follow_trials<R: Threads + Sync, S: Source, K: Sink, G: Gate>(
     let rt = setup.workers.rt;
     let gate = setup.workers.gate;
     let workers = setup.settings.workers;
+    // Closures, since `process` doesn't know that the runtime and the gate may be shared with threads. Here both may.
     let add = |block: &mut Block|
         requires { MayWork (IsSync R.row) (IsSync G.row) workers }
         ensures { IsParityAdded (block_rows block.entry.now) (block_rows block.exit.now) }
@@ -259,10 +285,11 @@ where
         piece,
         work,
     };
+    // The loop wants a report, but this command writes none. By a reference, since what is left in the work counts.
     run_units(&mut exercise, src, out, &mut NullSink::new())
 }
 
-/// The command with its buffers, or why it doesn't begin.
+/// The command with its buffers, or why it doesn't begin: only memory may be missing, since its layout is its own.
 pub(crate) fn run_exercise<R: Threads + Sync, S: Source, K: Sink, G: Gate>(
     workers: &Workers<'_, R, G>,
     start: &Start<'_>,
@@ -287,7 +314,8 @@ pub(crate) fn run_exercise<R: Threads + Sync, S: Source, K: Sink, G: Gate>(
     Ok(follow_trials(&setup, &mut block, &mut piece, &mut work, src, out))
 }
 
-// The smallest disk with so many blocks, each at an address of its own. No other zone is needed.
+// The smallest disk with so many blocks, each at an address of its own. No other zone is needed. Its 16 to 65,536
+// sectors break no rule of layouts, so the unwrapping can't fail.
 fn disk_of(blocks: u32) -> Layout
     requires some { 1 ≤ blocks }
     requires few { blocks ≤ 4096 }
@@ -296,14 +324,16 @@ fn disk_of(blocks: u32) -> Layout
     Layout::new(Shape::Single, 16 * blocks, 0, 0, 0).unwrap()
 }
 
-// The generator that block 0 is drawn from.
+// The generator that block 0 is drawn from. The clause says it in the words of the definition, whose states are
+// numbered by blocks.
 fn rand_of(seed: u32) -> Rand
     ensures { state_of result ≡ state_at seed 0 }
 {
     Rand::new(seed)
 }
 
-// Draws sixteen sectors, and makes their block.
+// Draws sixteen sectors, and makes their block as `master` does, with CPR_MAI zeros. The sectors stay in the piece, to
+// be compared with what is read.
 fn draw_block<A: Fn(&mut Block)>(
     layout: &Layout,
     entry: &BlockPlan,
@@ -330,7 +360,8 @@ fn draw_block<A: Fn(&mut Block)>(
 }
 
 // Loads a block, and damages it.
-// The block stays as it was made; the damage is done to its copy in the work.
+// The block stays as it was made; the damage is done to its copy in the work. It goes on with the generator, so that
+// each block has other damage.
 fn load_hurt(block: &Block, rand: &mut Rand, work: &mut Work)
     ensures hurt { IsHurt (state_of rand.old) (block_rows block.now) no_marks (rows_of work.new) (marks_of_work work.new) }
     ensures state { state_of rand.new ≡ hurt_state (state_of rand.old) }
@@ -364,11 +395,14 @@ fn read_back<F: Fn(&mut Work, &BlockPlan) -> Result<Fixed, Cause>>(
     ensures stage { stage_of work.new ≡ Stage.Fixed }
     ensures received { KeepsReceived work.old work.new }
 {
+    // The other case doesn't come, by `right`.
     if let Ok(fixed) = read_by(read, work, entry) {
         counts.add(fixed, has_sectors(work, image));
     }
 }
 
+// Whether all sixteen sectors are those of the image. The line counts what comes out of this comparison, though by the
+// contract all blocks come back. `unfolding` is for the checker: it opens the definition that the clause names.
 #[tactic(auto, unfolding(crate::specs::Inner::Exercising::are_sectors))]
 fn has_sectors(work: &Work, image: &[u8]) -> bool
     requires { length image.now ≡ 32768 }
@@ -385,6 +419,8 @@ fn is_sector(work: &Work, image: &[u8], f: usize) -> bool
     work.sector(f) == &image[2048 * f..2048 * f + 2048]
 }
 
+// The line of a run: its seed and number of blocks, and the counts of what was read back. `unfolding` is for the
+// checker: it opens the definition that the clause names.
 #[tactic(auto, unfolding(crate::specs::Exercise::exercise_line))]
 fn exercise_line(seed: u32, blocks: u32, counts: &Counts) -> Line
     ensures { result ≡ exercise_line seed blocks counts.now.whole counts.now.fixed counts.now.failed }

@@ -1,4 +1,6 @@
-//! The lines of a physical format.
+//! The lines of a physical format: a name and its value each. They are put together in one `Line`, of at most 256
+//! bytes, so that they can go out by one write; the clauses on lengths show that they fit. `unfolding` is for the
+//! checker: it opens a definition that a clause names.
 ghost use Rattle.std.specs.Prelude.{◌≡◌, ◌+◌, ◌<◌, ◌≤◌, ◌^◌, ◌++◌, codes, length, if◌then◌else◌};
 ghost use Rattle.dvd_control.specs.Format.{fields_of};
 ghost use Rattle.dvd_commands.specs.Info.{format_lines, number_line, sector_line};
@@ -30,6 +32,7 @@ pub fn format_lines(format: &PhysicalFormat) -> Line
     lines
 }
 
+// The line of the track path. Both texts have 14 bytes, so the room for it is known.
 fn path_line(opposite: bool) -> &'static [u8]
     ensures line { result.now ≡ (if opposite then codes "path opposite\n" else codes "path parallel\n") }
     ensures len { length result.now ≡ 14 }
@@ -41,6 +44,7 @@ fn path_line(opposite: bool) -> &'static [u8]
     }
 }
 
+// A line with a number in decimal: of eight bits, so at most 3 digits, and a line feed.
 fn put_number(lines: &mut Line, name: &[u8], number: u8)
     requires { length lines.old + length name.now + 4 ≤ 256 }
     ensures bytes { lines.new ≡ lines.old ++ number_line name.now number }
@@ -51,6 +55,7 @@ fn put_number(lines: &mut Line, name: &[u8], number: u8)
     lines.put(b"\n");
 }
 
+// A line with a sector number, as six hexadecimal digits: it has 24 bits. Other lines write it so too.
 fn put_sector(lines: &mut Line, name: &[u8], number: u32)
     requires { length lines.old + length name.now + 7 ≤ 256 }
     ensures bytes { lines.new ≡ lines.old ++ sector_line name.now number }

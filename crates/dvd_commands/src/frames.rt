@@ -1,4 +1,5 @@
-//! The command `frames`: a scrambled data frame for each sector.
+//! The command `frames`: a scrambled data frame for each sector. Only what is made of a sector differs from `cdmake`,
+//! so both go by `make_each`. It has no layout and takes no memory, so it can't be refused.
 ghost use Rattle.dvd_loop.specs.Laws.{IsPlainEnd};
 ghost use Rattle.dvd_loop.specs.Machine.{IsOutcome};
 ghost use Rattle.dvd_loop.specs.Streams.{streams, HasEnded};
@@ -11,7 +12,8 @@ use dvd_ports::{Sink, Source};
 use dvd_words::Settings;
 
 /// Makes a scrambled data frame for each of `settings.sectors` sectors of 2,048 bytes, numbered from `settings.first`
-/// on.
+/// on. It is public for callers without arguments; dvd_top hands it on. `HasSectors`: there is a sector, and all of
+/// their numbers have 24 bits.
 pub fn frames_loop<S: Source, K: Sink>(settings: &Settings, src: &mut S, out: &mut K) -> LoopEnd
     requires { HasSectors settings.now }
     ensures follows { (report : Seen) → HasEnded (IsOutcome (frames_units settings.now.first settings.now.sectors))

@@ -1,4 +1,11 @@
 //! The command `info`: the physical format in the lead-in of a disk.
+//! The lead-in begins with the Initial Zone, 2 blocks of reference code, 30 of a buffer zone, and 192 control blocks,
+//! whose first sector is the physical format; all 192 say the same. A unit is one captured block of these. A control
+//! block answers where it is right and its first sector is a physical format; the first that answers ends the run.
+//!
+//! In the clauses `HasBlock` says that the work holds a received block, and `HasNumbers` that the sector numbers of an
+//! entry have 24 bits. `AreDone` says which steps, writes and lines, are done for a unit; where a call fails, only a
+//! first part of them is.
 ghost use Rattle.std.specs.Prelude.{◌≡◌, ◌≤◌, ◌+◌, ℕ, None, IsErr, IfSome};
 ghost use Rattle.dvd_capture.specs.Rule.{HasBlock};
 ghost use Rattle.dvd_capture.specs.Works.{rows_of, marks_of_work, stage_of};
@@ -30,10 +37,11 @@ use dvd_ports::{NullSink, Sink, Source, write_whole};
 use dvd_read::read_block;
 use dvd_words::{Command, Settings};
 
-// The blocks of the lead-in after its Initial Zone, up to the last of control data.
+// The blocks of the lead-in after its Initial Zone, up to the last of control data: 2 + 30 + 192.
 const BLOCKS_BEHIND_INITIAL: u32 = 224;
 
-/// The blocks of the lead-in up to the last of control data, and the memory of one block.
+/// The blocks of the lead-in up to the last of control data, and the memory of one block. By `fits` their number has 32
+/// bits.
 #[derive(Drop)]
 struct Info<'a> {
     initial: u32,
@@ -42,6 +50,10 @@ struct Info<'a> {
     ghost fits: { initial ≤ most_initial },
 }
 
+// The clauses of these methods are in the trait: together they do what `info_units` says. `key` is what these units
+// depend on; no method changes it. `ready` and `left` say nothing, since a block doesn't depend on those before, and
+// the caller needs nothing afterwards. It is no `PlainCommand`, since the run has an end of its own where no block
+// answers. `Processed` is the kind of a unit, or how the loop ends in it.
 impl<'a, S: Source, K: Sink, E: Sink> UnitCommand<S, K, E> for Info<'a> {
     ghost Key = { ℕ × CaptureForm };
 
@@ -66,6 +78,7 @@ impl<'a, S: Source, K: Sink, E: Sink> UnitCommand<S, K, E> for Info<'a> {
         Ok(())
     }
 
+    // Of the plan only the lead-in is needed, whose entries follow from the length of the Initial Zone alone.
     fn process(&mut self, k: u32, src: &mut S, out: &mut K, _report: &mut E) -> Processed {
         let entry = lead_in_block(self.initial, k);
         fetch_block(src, k, self.form, self.work)?;
@@ -77,7 +90,9 @@ impl<'a, S: Source, K: Sink, E: Sink> UnitCommand<S, K, E> for Info<'a> {
     }
 }
 
-/// Seeks the first control block that answers, and writes the lines of its physical format.
+/// Seeks the first control block that answers, and writes the lines of its physical format. What comes after that block
+/// isn't read. Of the settings only `initial` and `form` count. It is public for callers with buffers of their own, of
+/// which nothing is promised afterwards.
 pub fn info_loop<S: Source, K: Sink>(
     settings: &Settings,
     work: &mut Work,
@@ -94,6 +109,7 @@ pub fn info_loop<S: Source, K: Sink>(
         form: settings.form,
         work,
     };
+    // The loop wants a report, but this command writes none.
     run_units(&mut info, src, out, &mut NullSink::new())
 }
 
@@ -110,9 +126,11 @@ pub(crate) fn run_info<S: Source, K: Sink>(
     ensures untouched { IsErr result → (src.new ≡ src.old) × (out.new ≡ out.old) }
 {
     let settings = start.settings;
+    // Of a layout only the Initial Zone counts here, so no other rule is tried. This is tried before memory is taken.
     let worded = worded_initial(settings)?;
     let mut work = Work::new(start.alloc)?;
     match worded {
+        // The length is that of the settings, which the loop reads itself.
         Some(_) => Ok(info_loop(settings, &mut work, src, out)),
         None => Ok(info_listed(settings, &mut work, src, out)),
     }
@@ -149,6 +167,7 @@ fn ask_block<K: Sink>(entry: &BlockPlan, work: &mut Work, out: &mut K) -> Proces
     }
 }
 
+// A block without a physical format is Good, not Bad: nothing of it is missing in the output, and the next is asked.
 fn ask_control<K: Sink>(entry: &BlockPlan, work: &mut Work, out: &mut K) -> Processed
     requires numbers { HasNumbers entry.now }
     requires stage { HasBlock (stage_of work.old) }
@@ -164,7 +183,8 @@ fn ask_control<K: Sink>(entry: &BlockPlan, work: &mut Work, out: &mut K) -> Proc
 }
 
 // The physical format in the first sector of a block, if the block is right and the sector is one.
-// A block or a sector that is refused gives none, and the next one is asked.
+// A block or a sector that is refused gives none, and the next one is asked. One thread reads it, since `info` has no
+// option for workers.
 fn format_in(entry: &BlockPlan, work: &mut Work) -> Option<PhysicalFormat>
     requires numbers { HasNumbers entry.now }
     requires stage { HasBlock (stage_of work.old) }
@@ -172,6 +192,7 @@ fn format_in(entry: &BlockPlan, work: &mut Work) -> Option<PhysicalFormat>
     ensures none { result ≡ None → AnswersNothing entry.now (rows_of work.old) (marks_of_work work.old) }
 {
     read_block(work, entry).ok()?;
+    // A copy, since a format is read of an array, and the work lends a slice.
     let mut sector = [0; 2048];
     sector.copy_from_slice(work.sector(0));
     PhysicalFormat::from_bytes(&sector).ok()

@@ -1,4 +1,5 @@
-//! The commands of dvdecc: how each begins, and what it does for each unit of its input.
+//! The commands of dvdecc: how each begins, and what it does for each unit of its input. A unit is a sector, a block or
+//! a recording frame.
 //! All share one loop. A command without a report lends it a `NullSink`, and promises its run with any report. The
 //! crate above, dvd_top, says with which line and status a run ends.
 #![tactic(auto)]

@@ -1,4 +1,6 @@
 //! The loop of the commands that make something of each sector of user data: `frames` and `cdmake`.
+//! They need no layout and no memory but the stack, so they can't be refused. `AreDone` says which steps, writes and
+//! lines, are done for a unit; where a call fails, only a first part of them is.
 ghost use Rattle.std.specs.Prelude.{◌+◌, ◌<◌, ◌≤◌, ◌^◌, ℕ, refl};
 ghost use Rattle.dvd_loop.specs.Laws.{IsPlainEnd};
 ghost use Rattle.dvd_loop.specs.Machine.{IsOutcome};
@@ -23,7 +25,8 @@ pub(crate) enum Made {
     CdSector,
 }
 
-/// The sectors that are read: what is made of each, the number or address of the first, and how many.
+/// The sectors that are read: what is made of each, the number or address of the first, and how many. `within` keeps
+/// `first + k` in range: a sector number has 24 bits, and a CD-ROM has addresses below 450,000, which is minute 100.
 #[derive(Drop)]
 struct Making {
     made: Made,
@@ -32,6 +35,9 @@ struct Making {
     ghost within: { first + sectors ≤ number_limit made },
 }
 
+// The clauses of these methods are in the trait: for sector `k` they do what `sectors_made` says, and nothing opens or
+// closes the units (`alone`). `key` is what the units depend on; no method changes it. A `PlainCommand` has units that
+// don't depend on each other; `Processed` is the kind of one, or how the loop ends in it.
 impl<S: Source, K: Sink, E: Sink> PlainCommand<S, K, E> for Making {
     ghost use Rattle.dvd_commands.specs.declared.making.Made.{Made};
 
@@ -47,6 +53,7 @@ impl<S: Source, K: Sink, E: Sink> PlainCommand<S, K, E> for Making {
         self.sectors
     }
 
+    // The sector is on the stack, since these commands take no memory. `within` keeps the number in range.
     fn process(&mut self, k: u32, src: &mut S, out: &mut K, _report: &mut E) -> Processed {
         let mut sector = [0; 2048];
         read_unit(src, k, &mut sector)?;
@@ -72,9 +79,11 @@ pub(crate) fn make_each<S: Source, K: Sink>(
         first,
         sectors,
     };
+    // The loop wants a report, but these commands write none.
     run_plain(making, src, out, &mut NullSink::new())
 }
 
+// Makes this of one sector and writes it, as one piece.
 // The two things have two lengths, so each case has a buffer of its own.
 fn write_made<K: Sink>(made: Made, number: u32, sector: &[u8; 2048], out: &mut K) -> Processed
     requires { number < number_limit made }
@@ -96,6 +105,8 @@ fn write_made<K: Sink>(made: Made, number: u32, sector: &[u8; 2048], out: &mut K
     Ok(UnitKind::Good)
 }
 
+// There is no disk, so the ID says layer 0 of a disk with one layer (`false`: bit 29 is 0), and CPR_MAI is zeros. All
+// of the Main Data is scrambled, as in the Data Zone.
 fn write_frame(number: u32, sector: &[u8; 2048], frame: &mut [u8; 2064])
     requires { number < 2 ^ 24 }
     ensures { IsSectorFrame number sector.now frame.new }

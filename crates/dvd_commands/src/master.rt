@@ -1,4 +1,12 @@
 //! The command `master`: the recording frames of each ECC block of a disk.
+//! Block by block it reads what the block has of the image, makes its sixteen data frames, adds the parity, and writes
+//! its rows in the order of recording. `Block` is the memory of 208 rows, and `Piece` that of sixteen sectors.
+//!
+//! In the clauses `IsLayoutOf` says that the layout is the one that the settings ask for, `IsEntry` that an entry is
+//! one of its plan, `HasNumbers` that the sector numbers of an entry have 24 bits, `MayWork` that the runtime and the
+//! gate may be shared with threads, and that there are 1 to 16 workers, and `IsAdder` that each call of the closure
+//! adds the parity as `add_parity` does. Clauses `causes` say by the counts of a stream that the call that failed,
+//! where one did, was its last.
 ghost use Rattle.std.specs.Thread.{IsSync};
 ghost use Rattle.std.specs.Prelude.{◌≡◌, ◌-◌, ◌*◌, ◌<◌, ◌≤◌, ℕ, List, length, take, drop, replicate, IfErr, IsErr, OnOk, refl};
 ghost use Rattle.std.specs.Io.KnownBytes.{Consumes};
@@ -42,6 +50,10 @@ struct Master<'a, 'r, F> {
     piece: &'a mut Piece,
 }
 
+// The clauses of these methods are in the trait: for block `k` they do what `master_units` says, and nothing opens or
+// closes the units (`alone`). `key` is what the units depend on; no method changes it.
+// `ready` is what a unit needs: a closure that adds the parity as `add_parity` does. A `PlainCommand` has units that
+// don't depend on each other; `Processed` is the kind of one, or how the loop ends in it.
 impl<'a, 'r, F: Fn(&mut Block), S: Source, K: Sink, E: Sink> PlainCommand<S, K, E>
     for Master<'a, 'r, F> {
     ghost Key = { DiskLayout × WhichZones × List ℕ };
@@ -58,6 +70,7 @@ impl<'a, 'r, F: Fn(&mut Block), S: Source, K: Sink, E: Sink> PlainCommand<S, K, 
         self.blocks.count()
     }
 
+    // The whole recording of a block is written before the next is read. Nothing is read for one without image.
     fn process(&mut self, k: u32, src: &mut S, out: &mut K, _report: &mut E) -> Processed {
         let entry = self.blocks.at(k);
         let size = image_size(&self.blocks.layout, &entry);
@@ -75,6 +88,8 @@ impl<'a, 'r, F: Fn(&mut Block), S: Source, K: Sink, E: Sink> PlainCommand<S, K, 
 }
 
 /// Masters every block of the plan of the layout and the zones that the settings choose.
+/// It is public for callers with buffers of their own. What these held before doesn't matter, and nothing is promised
+/// of them afterwards.
 pub fn master_loop<R: Threads + Sync, S: Source, K: Sink, G: Gate>(
     rt: &R,
     settings: &Settings,
@@ -92,6 +107,7 @@ pub fn master_loop<R: Threads + Sync, S: Source, K: Sink, G: Gate>(
     ensures ends { IsPlainEnd (length (plan_of layout.now settings.now.zones)) result }
 {
     let workers = settings.workers;
+    // A closure, since `process` doesn't know that the runtime and the gate may be shared with threads. Here both may.
     let add = |block: &mut Block|
         requires { MayWork (IsSync R.row) (IsSync G.row) workers }
         ensures { IsParityAdded (block_rows block.entry.now) (block_rows block.exit.now) }
@@ -106,10 +122,13 @@ pub fn master_loop<R: Threads + Sync, S: Source, K: Sink, G: Gate>(
         block,
         piece,
     };
+    // The loop wants a report, but this command writes none.
     run_plain(master, src, out, &mut NullSink::new())
 }
 
 /// The command with its buffers, or why it doesn't begin.
+/// It reads an image and no capture, so its layout always comes from the arguments. That is tried before memory is
+/// taken.
 pub(crate) fn run_master<R: Threads + Sync, S: Source, K: Sink, G: Gate>(
     workers: &Workers<'_, R, G>,
     start: &Start<'_>,
@@ -138,6 +157,7 @@ pub(crate) fn run_master<R: Threads + Sync, S: Source, K: Sink, G: Gate>(
     ))
 }
 
+// How many image bytes a block has: 0 for one without image, which reads nothing.
 fn image_size(layout: &Layout, entry: &BlockPlan) -> usize
     ensures value { result ≡ image_bytes layout.now entry.now }
     ensures most { result ≤ 32768 }
@@ -146,7 +166,8 @@ fn image_size(layout: &Layout, entry: &BlockPlan) -> usize
 }
 
 // Reads the image bytes of block `k` to the beginning of the piece, and fills the rest with zeros.
-// The piece held the block before, so the rest is filled each time.
+// The piece held the block before, so the rest is filled each time. After an error the piece may be written in part,
+// and the loop ends.
 fn read_image<S: Source>(src: &mut S, k: u32, piece: &mut Piece, size: usize) -> Result<(), LoopEnd>
     requires { size ≤ 32768 }
     ensures length { length (piece_bytes piece.new) ≡ 32768 }
@@ -162,7 +183,7 @@ fn read_image<S: Source>(src: &mut S, k: u32, piece: &mut Piece, size: usize) ->
 }
 
 /// What a block is mastered of: its entry in the plan of the layout, the six bytes of CPR_MAI, and its image bytes,
-/// filled with zeros.
+/// filled with zeros. `exercise` makes its blocks of the same.
 #[derive(Drop)]
 pub(crate) struct Mastered<'a> {
     pub layout: &'a Layout,
@@ -171,7 +192,8 @@ pub(crate) struct Mastered<'a> {
     pub sectors: &'a [u8],
 }
 
-/// Puts the sixteen frames of a block into it, and adds the parity.
+/// Puts the sixteen frames of a block into it, and adds the parity. All 208 rows are written, so what the block held
+/// before doesn't matter.
 pub(crate) fn fill_block<F: Fn(&mut Block)>(given: &Mastered<'_>, add: &F, block: &mut Block)
     requires size { length given.now.sectors.now ≡ 32768 }
     requires entry { IsEntry given.now.layout.now given.now.entry.now }
@@ -189,7 +211,8 @@ pub(crate) fn fill_block<F: Fn(&mut Block)>(given: &Mastered<'_>, add: &F, block
     add_by(add, block);
 }
 
-// Only image sectors come from the input. The other contents are made here, by the rules of the layout.
+// Writes data frame `f` of a block. Only image sectors come from the input. The Main Data of the other contents, as
+// zeros or the physical format, are made here, by the rules of the layout.
 fn write_frame(scrambler: &mut Scrambler, given: &Mastered<'_>, f: usize, frame: &mut [u8; 2064])
     requires size { length given.now.sectors.now ≡ 32768 }
     requires entry { IsEntry given.now.layout.now given.now.entry.now }
@@ -207,7 +230,7 @@ fn write_frame(scrambler: &mut Scrambler, given: &Mastered<'_>, f: usize, frame:
     }
 }
 
-// Sector `f` of sixteen.
+// Sector `f` of sixteen. As an array, which frames are made of; a slice of 2,048 bytes always becomes one.
 fn sector_at(sectors: &[u8], f: usize) -> &[u8; 2048]
     requires size { length sectors.now ≡ 32768 }
     requires frame { f < 16 }
@@ -216,7 +239,8 @@ fn sector_at(sectors: &[u8], f: usize) -> &[u8; 2048]
     <&[u8; 2048]>::try_from(&sectors[2048 * f..2048 * f + 2048]).unwrap()
 }
 
-// Makes frame `f` with these Main Data.
+// Makes frame `f` with these Main Data. Its ID, its CPR_MAI and which bytes are scrambled come from the entry, whatever
+// the Main Data are.
 fn make_with(
     scrambler: &mut Scrambler,
     given: &Mastered<'_>,
@@ -240,7 +264,7 @@ fn make_with(
     );
 }
 
-// Only frames of the Data Zone have the bytes that were asked for.
+// Only frames of the Data Zone have the bytes that were asked for: CPR_MAI belongs to the protection of its data.
 fn cpr_of(area: Area, cpr: &[u8; 6]) -> [u8; 6]
     ensures { result ≡ cpr_in area cpr.now }
 {

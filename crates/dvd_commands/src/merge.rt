@@ -1,4 +1,7 @@
 //! The command `merge`: one stream of captured blocks, joined of several captures of one disk.
+//! The input has block 0 of each capture, then block 1 of each, and so on, so the memory of one block is enough. Bytes
+//! are joined place by place, whatever they hold: of the plan only the number of blocks counts, and nothing is decoded.
+//! Clauses `causes` say by the counts of a stream that the call that failed, where one did, was its last.
 ghost use Rattle.std.specs.Prelude.{◌≡◌, ◌*◌, ◌<◌, ◌≤◌, ℕ, length, IsErr, IfErr, OnOk, refl};
 ghost use Rattle.dvd_capture.specs.Captured.{block_size, Captures, HasSize};
 ghost use Rattle.dvd_capture.specs.Rule.{HasBlock};
@@ -28,7 +31,9 @@ use dvd_merge::Merge;
 use dvd_ports::{NullSink, Sink, Source};
 use dvd_words::{Command, Settings};
 
-/// Its blocks, how many captures there are of each, and the memory of one capture and of the join.
+/// Its blocks, how many captures there are of each, and the memory of one capture and of the join. `sized`: the form is
+/// plain or marked, in which each block has the same size. A listed capture would state a layout for each capture.
+/// `few` keeps the bytes of a unit within 32 bits; the option allows 2 to 16 captures.
 #[derive(Drop)]
 struct Merging<'a> {
     blocks: Blocks,
@@ -41,6 +46,9 @@ struct Merging<'a> {
     ghost sized: { HasSize form },
 }
 
+// The clauses of these methods are in the trait: for block `k` they do what `merge_units` says, and nothing opens or
+// closes the units (`alone`). `key` is what the units depend on; no method changes it. A `PlainCommand` has units that
+// don't depend on each other; `Processed` is the kind of one, or how the loop ends in it.
 impl<'a, S: Source, K: Sink, E: Sink> PlainCommand<S, K, E> for Merging<'a> {
     ghost Key = { DiskLayout × WhichZones × CaptureForm × ℕ };
 
@@ -54,6 +62,7 @@ impl<'a, S: Source, K: Sink, E: Sink> PlainCommand<S, K, E> for Merging<'a> {
         self.blocks.count()
     }
 
+    // The join goes out in the marked form, since a place where captures differ is marked.
     fn process(&mut self, k: u32, src: &mut S, out: &mut K, _report: &mut E) -> Processed {
         take_captures(src, k, self.form, self.captures, self.merge, self.work)?;
         self.merge.write_marked(out)?;
@@ -62,7 +71,9 @@ impl<'a, S: Source, K: Sink, E: Sink> PlainCommand<S, K, E> for Merging<'a> {
 }
 
 /// Joins the captures of each block of the plan of the layout and the zones that the settings choose: a captured block
-/// of each of them, one after the other.
+/// of each of them, one after the other. It is public for callers with buffers of their own, of which nothing is
+/// promised afterwards. `IsLayoutOf`: the layout is the one that the settings ask for, made once by the caller;
+/// `HasSize`: the form is plain or marked.
 pub fn merge_loop<S: Source, K: Sink>(
     settings: &Settings,
     layout: &Layout,
@@ -88,10 +99,12 @@ pub fn merge_loop<S: Source, K: Sink>(
         merge,
         work,
     };
+    // The loop wants a report, but this command writes none.
     run_plain(merging, src, out, &mut NullSink::new())
 }
 
-/// The command with its buffers, or why it doesn't begin.
+/// The command with its buffers, or why it doesn't begin. The layout is tried before memory is taken: a broken rule is
+/// what a user can put right.
 pub(crate) fn run_merge<S: Source, K: Sink>(
     start: &Start<'_>,
     src: &mut S,
@@ -111,7 +124,8 @@ pub(crate) fn run_merge<S: Source, K: Sink>(
     Ok(merge_loop(settings, &layout, &mut merge, &mut work, src, out))
 }
 
-// Joins the captures of block `k`, or answers how the loop ends within them. The join doesn't depend on earlier blocks.
+// Joins the captures of block `k`, or answers how the loop ends within them. The join doesn't depend on earlier blocks:
+// it is cleared first. After an error it has some of the captures, and the loop ends before it is written.
 fn take_captures<S: Source>(
     src: &mut S,
     k: u32,
@@ -135,7 +149,8 @@ fn take_captures<S: Source>(
 }
 
 // Reads capture `c` of block `k`, or answers how the loop ends within it.
-// A unit is the captures of one block, so an end counts the bytes of those before it too.
+// A unit is the captures of one block, so an end counts the bytes of those before it too, which `fetch_block` of
+// `captured` doesn't.
 fn fetch_capture<S: Source>(
     src: &mut S,
     k: u32,
@@ -150,6 +165,7 @@ fn fetch_capture<S: Source>(
     ensures short { IfErr result (EndsInCapture k (c * block_size form) (block_size form) (S.seen src.old) (S.seen src.new)) }
     ensures causes { HasReadCause result (S.seen src.old) (S.seen src.new) }
 {
+    // The bytes of the captures before this one: at most 15 blocks of 42,640, which have room in 32 bits.
     let held = c * form.size() as u32;
     match fetch(src, form, work) {
         FetchAnswer::Full => Ok(()),
@@ -162,6 +178,7 @@ fn fetch_capture<S: Source>(
             bytes: held + bytes,
         }),
         FetchAnswer::ReadFault => Err(LoopEnd::ReadFault),
+        // Plain and marked blocks break no rule, so this doesn't come.
         FetchAnswer::BadMarks { at } => Err(LoopEnd::BadMarks { block: k, at }),
     }
 }

@@ -1,5 +1,12 @@
 //! The header that a listed capture opens with.
 //! It is read before the loop, which then runs by the settings that it states: so the loop is that of the other forms.
+//!
+//! Of its 32 bytes, the first eight are always the same. Then come the shape of the disk and the zones of the stream, a
+//! byte each, and two zeros. From byte 12 on there are four numbers of four bytes: the sectors of both layers, and the
+//! blocks of the Initial Zone and of the zones after data. The last four are zeros.
+//!
+//! What is called worded comes from the arguments, and what is called stated from a header. Clauses `causes` say by the
+//! counts of a stream that the call that failed, where one did, was its last.
 ghost use Rattle.std.specs.Prelude.{◌≡◌, ◌<◌, ℕ, List, Some, IfOk, IfErr};
 ghost use Rattle.dvd_capture.specs.Header.{header_bytes};
 ghost use Rattle.dvd_layout.specs.Lengths.{initial_fault};
@@ -18,7 +25,8 @@ use dvd_loop::LoopEnd;
 use dvd_ports::{Failed, Source, read_whole};
 use dvd_words::Settings;
 
-/// What is found where a listed capture begins.
+/// What is found where a listed capture begins. It isn't the end of a loop, since `listed_layout` is for callers
+/// without one too; `open_listed` makes ends of it.
 #[derive(Clone, Copy, Debug, PartialEq, Eq)]
 pub enum HeaderEnd {
     /// A header, which states this layout and these zones.
@@ -33,7 +41,8 @@ pub enum HeaderEnd {
 
 /// Reads the header of a listed capture: 32 bytes, and none after them. It is `Short` exactly where the input ended
 /// before. It is `BadHeader` exactly where a byte isn't allowed in a header or the layout that it states breaks a rule.
-/// It is `ReadFault` only where a read failed.
+/// It is `ReadFault` only where a read failed. `header` is of the bytes, and `counts` of the failed calls and ends that
+/// the source counts.
 pub fn listed_layout<S: Source>(src: &mut S) -> HeaderEnd
     ensures header { ReadsHeader result (S.seen src.old) (S.seen src.new) }
     ensures counts { HeaderCounts result (S.seen src.old) (S.seen src.new) }
@@ -49,7 +58,8 @@ pub fn listed_layout<S: Source>(src: &mut S) -> HeaderEnd
 }
 
 // What 32 bytes state, if they break no rule.
-// A byte that no header has is found first, then a rule of layouts: `Header` knows no layout.
+// A byte that no header has is found first, then a rule of layouts: `Header` knows no layout. `left` is what comes
+// after them: the answer holds whatever that is.
 fn layout_in(bytes: &[u8; 32]) -> HeaderEnd
     ensures { (left : List ℕ) → AnswersHeader result bytes.now left }
 {
@@ -59,6 +69,8 @@ fn layout_in(bytes: &[u8; 32]) -> HeaderEnd
     }
 }
 
+// The layout that a header states, if it breaks no rule.
+// Shape and zones have known numbers, as every `Header` does: only its lengths may break a rule.
 fn layout_of(header: &Header) -> HeaderEnd
     ensures { (left : List ℕ) → AnswersHeader result (header_bytes header.now) left }
 {
@@ -79,7 +91,8 @@ fn layout_of(header: &Header) -> HeaderEnd
     }
 }
 
-/// The header that states a layout and zones.
+/// The header that states a layout and zones: `convert` writes it. The clause is of any settings that ask for this
+/// layout and these zones.
 pub(crate) fn header_of(layout: &Layout, zones: Zones) -> Header
     ensures { (settings : WordSettings) → IsLayoutOf settings layout.now → settings.zones ≡ zones
         → IsHeaderOf settings settings (header_bytes result) }
@@ -116,6 +129,7 @@ fn number_of_zones(zones: Zones) -> u8
     }
 }
 
+// Its number is 0, 1 or 2, so the last arm is that of 2. Likewise below.
 fn shape_of(number: u8) -> Shape
     requires { number < 3 }
     ensures { shape_number result ≡ number }
@@ -144,6 +158,7 @@ fn fault_byte(fault: LayoutFault) -> u32
 {
     match fault {
         LayoutFault::EmptyLayer { layer } => layer_byte(layer),
+        // Only layer 0 of two has to fill whole blocks.
         LayoutFault::OddLayer { .. } => 12,
         LayoutFault::SecondLayer { .. } => 16,
         LayoutFault::LayerLonger { .. } => 16,
@@ -153,6 +168,7 @@ fn fault_byte(fault: LayoutFault) -> u32
     }
 }
 
+// The first byte of the sectors of a layer, 0 or 1.
 fn layer_byte(layer: u8) -> u32
     ensures { result ≡ layer_byte layer }
 {
@@ -172,7 +188,7 @@ pub(crate) fn layout_from_arguments(settings: &Settings) -> Result<Option<Layout
 }
 
 /// The length of the Initial Zone that the arguments ask for, or the rule that it breaks; none where a listed capture
-/// states its own.
+/// states its own. It is for `info`, which has no other length of a layout.
 pub(crate) fn worded_initial(settings: &Settings) -> Result<Option<u32>, LayoutFault>
     ensures worded { IfOk result (IsWordedInitial settings.now) }
     ensures refused { IfErr result (λ fault. HasSize settings.now.form × (initial_fault settings.now.initial ≡ Some fault)) }
@@ -195,7 +211,8 @@ pub(crate) struct Stated {
     pub layout: Layout,
 }
 
-/// Reads the header of a listed capture, or answers how the run ends in it.
+/// Reads the header of a listed capture, or answers how the run ends in it. Settings that no header states, as the
+/// workers, stay those of the arguments.
 pub(crate) fn open_listed<S: Source>(settings: &Settings, src: &mut S) -> Result<Stated, LoopEnd>
     ensures opened { IfOk result (λ stated. HasOpened settings.now (S.seen src.old) (S.seen src.new) stated.settings stated.layout) }
     ensures ended { IfErr result (EndsInHeader settings.now (S.seen src.old) (S.seen src.new)) }

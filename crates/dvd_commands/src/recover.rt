@@ -1,4 +1,14 @@
 //! The command `recover`: image sectors from a stream of captured blocks.
+//!
+//! `run_recover` takes the memory and reads the header of a listed capture, `recover_loop` goes over all blocks of the
+//! plan, and `recover_block` does one. `Work` is the memory of one captured block: its received rows and marks, what
+//! two passes made of them, and its sixteen sectors. Each block overwrites what the one before left there.
+//!
+//! In the clauses `IsLayoutOf` says that the layout is the one that the settings ask for, `HasBlock` that the work
+//! holds a received block, `HasNumbers` that the sector numbers of an entry have 24 bits, `MayRead` that besides these
+//! the runtime and the gate may be shared with threads, and that there are 1 to 16 workers, and `IsReader` that each
+//! call of the closure reads a block as `read_block` does. `AreDone` says which steps, writes and lines, are done for a
+//! unit; where a call fails, only a first part of them is.
 ghost use Rattle.std.specs.Thread.{IsSync};
 ghost use Rattle.std.specs.Prelude.{◌≡◌, ◌≤◌, length, IsErr, refl};
 ghost use Rattle.dvd_ports.specs.Seen.{Seen};
@@ -43,6 +53,10 @@ struct Recover<'a, 'r, F> {
     work: &'a mut Work,
 }
 
+// The clauses of these methods are in the trait: for block `k` they do what `recover_units` says, and nothing opens or
+// closes the units (`alone`). `key` is what the units depend on; no method changes it.
+// `ready` is what a unit needs: a closure that reads a block as `read_block` does. A `PlainCommand` has units that
+// don't depend on each other; `Processed` is the kind of one, or how the loop ends in it.
 impl<'a, 'r, F, S: Source, K: Sink, E: Sink> PlainCommand<S, K, E> for Recover<'a, 'r, F>
 where
     F: Fn(&mut Work, &BlockPlan) -> Result<Fixed, Cause>,
@@ -76,6 +90,8 @@ where
 
 /// Reads every block of the plan of the layout and the zones that the settings choose, and writes its image sectors. A
 /// line names each that is refused, and zeros are written for its sectors that aren't salvaged.
+/// It is public for callers with buffers of their own. What the work held before doesn't matter, and nothing is
+/// promised of it afterwards.
 pub fn recover_loop<R: Threads + Sync, S: Source, K: Sink, E: Sink, G: Gate>(
     rt: &R,
     settings: &Settings,
@@ -94,6 +110,7 @@ pub fn recover_loop<R: Threads + Sync, S: Source, K: Sink, E: Sink, G: Gate>(
     ensures ends { IsCaptureEnd settings.now.form (length (plan_of layout.now settings.now.zones)) result }
 {
     let workers = settings.workers;
+    // A closure, since `process` doesn't know that the runtime and the gate may be shared with threads. Here both may.
     let read = |work: &mut Work, plan: &BlockPlan| -> Result<Fixed, Cause>
         requires { MayRead (IsSync R.row) (IsSync G.row) workers work.now plan.now }
         ensures { IsBlockRead work.entry.now work.exit.now plan.entry.now result }
@@ -127,6 +144,7 @@ pub(crate) fn run_recover<R: Threads + Sync, S: Source, K: Sink, E: Sink, G: Gat
     ensures untouched { IsErr result → (src.new ≡ src.old) × (out.new ≡ out.old) × (report.new ≡ report.old) }
 {
     let settings = start.settings;
+    // The layout is tried before memory is taken: a broken rule is what a user can put right.
     let worded = layout_from_arguments(settings)?;
     let mut work = Work::new(start.alloc)?;
     match open_blocks(settings, worded, src) {
@@ -140,12 +158,14 @@ pub(crate) fn run_recover<R: Threads + Sync, S: Source, K: Sink, E: Sink, G: Gat
             out,
             report,
         )),
+        // The run ended in the header of its input. It did begin, so this is an end and no refusal.
         Err(end) => Ok(end),
     }
 }
 
 // Decodes a block of image sectors and writes them. Or it reports its cause, and writes those that are salvaged and
-// zeros for the others. Any other block is passed over.
+// zeros for the others. Any other block is passed over, undecoded: nothing of it goes to the image, so damage there
+// costs nothing.
 fn recover_block<F: Fn(&mut Work, &BlockPlan) -> Result<Fixed, Cause>, K: Sink, E: Sink>(
     block: &Planned<'_>,
     read: &F,
@@ -163,8 +183,10 @@ fn recover_block<F: Fn(&mut Work, &BlockPlan) -> Result<Fixed, Cause>, K: Sink, 
         Content::Image(_) => {}
         Content::Zero | Content::Reference | Content::Control => return Ok(UnitKind::Good),
     }
+    // Sixteen, or fewer in the last block of the image: what fills that block up isn't written.
     let count = block.layout.image_sectors(block.entry.content);
     match read_by(read, work, block.entry) {
+        // What was fixed isn't reported: an accepted block has no line here, and `survey` counts rows.
         Ok(_) => {
             write_sectors(work, count, out)?;
             Ok(UnitKind::Good)

@@ -1,4 +1,5 @@
-//! Why a command doesn't begin.
+//! Why a command doesn't begin. Nothing has been read, written or reported then. The conversions below are those of `?`
+//! in the functions that begin a command; `from_gives` is what is proved of them.
 ghost use Rattle.std.specs.Prelude.{◌≡◌};
 ghost use Rattle.dvd_commands.specs.declared.refusal.Refusal.TheVariants.{Setting as setting, NoMemory as no_memory};
 

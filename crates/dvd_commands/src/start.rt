@@ -3,7 +3,8 @@
 use dvd_words::Settings;
 use std::alloc::Global;
 
-/// Where the memory of a run comes from, and what its arguments ask for.
+/// Where the memory of a run comes from, and what its arguments ask for. One value, since every command that takes
+/// memory begins with both. Memory is taken from `alloc` before the first byte is read, and not later.
 #[derive(Drop)]
 pub(crate) struct Start<'a> {
     pub alloc: Global,

@@ -1,4 +1,16 @@
 //! The command `survey`: a line for each captured block, and a line of totals.
+//! It reads every block, also one without image: it shows where a surface fails. The lines are its results, so they go
+//! to the output, and nothing but the closing line of a run goes to the report.
+//!
+//! `Survey` has the totals and what is needed of the last blocks (`StandsFor` says of which list of blocks it is the
+//! survey). `Work` is the memory of one captured block. Both are the caller's.
+//!
+//! In the clauses `IsLayoutOf` says that the layout is the one that the settings ask for, `HasBlock` that the work
+//! holds a received block, `HasNumbers` that the sector numbers of an entry have 24 bits, `MayRead` that besides these
+//! the runtime and the gate may be shared with threads, and that there are 1 to 16 workers, and `IsReader` that each
+//! call of the closure reads a block as `read_block` does. `AreDone` says which steps, writes and lines, are done for a
+//! unit; where a call fails, only a first part of them is. Clauses `causes` say by the counts of a stream that the call
+//! that failed, where one did, was its last.
 ghost use Rattle.std.specs.Thread.{IsSync};
 ghost use Rattle.std.specs.Prelude.{◌≡◌, ◌≢◌, ◌++◌, ◌<◌, ◌≤◌, ◌^◌, List, [], ◌∷◌, length, IsErr};
 ghost use Rattle.std.specs.Result.{result_err};
@@ -49,6 +61,10 @@ struct Surveying<'a, 'r, F> {
     work: &'a mut Work,
 }
 
+// The clauses of these methods are in the trait: together they do what `survey_units` says. `key` is what these units
+// depend on; no method changes it. `ready` is what holds between blocks: the survey is that of the blocks before.
+// `left` says what the end leaves to the caller, here nothing. It is no `PlainCommand`, since a line needs the blocks
+// before, and totals close the survey. `Processed` is the kind of a unit, or how the loop ends in it.
 impl<'a, 'r, F, S: Source, K: Sink, E: Sink> UnitCommand<S, K, E> for Surveying<'a, 'r, F>
 where
     F: Fn(&mut Work, &BlockPlan) -> Result<Fixed, Cause>,
@@ -90,7 +106,8 @@ where
 }
 
 /// Surveys every block of the plan of the layout and the zones that the settings choose. The survey has to be empty
-/// before.
+/// before. It is public for callers with buffers of their own, of which nothing is promised afterwards. `unfolding`
+/// shows the checker that nothing is found of no block.
 #[tactic(auto, unfolding(crate::specs::Survey::found_in))]
 pub fn survey_loop<R: Threads + Sync, S: Source, K: Sink, G: Gate>(
     rt: &R,
@@ -111,6 +128,7 @@ pub fn survey_loop<R: Threads + Sync, S: Source, K: Sink, G: Gate>(
     ensures no_report { result ≢ LoopEnd.ReportFault }
 {
     let workers = settings.workers;
+    // A closure, since `process` doesn't know that the runtime and the gate may be shared with threads. Here both may.
     let read = |work: &mut Work, plan: &BlockPlan| -> Result<Fixed, Cause>
         requires { MayRead (IsSync R.row) (IsSync G.row) workers work.now plan.now }
         ensures { IsBlockRead work.entry.now work.exit.now plan.entry.now result }
@@ -125,6 +143,7 @@ pub fn survey_loop<R: Threads + Sync, S: Source, K: Sink, G: Gate>(
         survey,
         work,
     };
+    // The loop wants a report, but this command writes none. It owns the command, which nobody needs afterwards.
     run_owned(surveying, src, out, &mut NullSink::new())
 }
 
@@ -143,6 +162,7 @@ pub(crate) fn run_survey<R: Threads + Sync, S: Source, K: Sink, G: Gate>(
     ensures untouched { IsErr result → (src.new ≡ src.old) × (out.new ≡ out.old) }
 {
     let settings = start.settings;
+    // The layout is tried before memory is taken: a broken rule is what a user can put right.
     let worded = layout_from_arguments(settings)?;
     let mut survey = Survey::new(start.alloc)?;
     let mut work = Work::new(start.alloc)?;
@@ -157,12 +177,14 @@ pub(crate) fn run_survey<R: Threads + Sync, S: Source, K: Sink, G: Gate>(
             src,
             out,
         )),
+        // The run ended in the header of its input. It did begin, so this is an end and no refusal.
         Err(end) => Ok(end),
     }
 }
 
 // Reads a block, adds it to the survey, and writes its line.
-// It is added first, since its line is the last of the survey.
+// It is added first, since its line is the last of the survey. A plan has fewer blocks than `room` allows. After a
+// failed write the block stays added, and the run ends.
 fn survey_block<F: Fn(&mut Work, &BlockPlan) -> Result<Fixed, Cause>, K: Sink>(
     entry: &BlockPlan,
     read: &F,
@@ -188,6 +210,7 @@ fn survey_block<F: Fn(&mut Work, &BlockPlan) -> Result<Fixed, Cause>, K: Sink>(
     Ok(kind_of(&answer))
 }
 
+// A refused block counts as bad: the run goes on, and then ends as damaged.
 fn kind_of(answer: &Result<Fixed, Cause>) -> UnitKind
     ensures { result ≡ kind_by (result_err answer.now) }
 {

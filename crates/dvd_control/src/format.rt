@@ -1,4 +1,6 @@
-//! The physical format of a disk, as it is in the Control Data Zone.
+//! The physical format of a disk, as it is in the Control Data Zone. In contracts a format is plain numbers:
+//! `fields_of` those of a value, `fields_for` those that the lead-in of a layer has, and `fields_in` those that a
+//! sector states. `tactic` says to the prover which lemmas and definitions a proof needs.
 ghost use Rattle.std.specs.Prelude.{◌≡◌, ◌+◌, ◌-◌, ◌<◌, ◌≤◌, ◌^◌, None, Some, IfErr, IfOk};
 ghost use Rattle.dvd_layout.specs.Lengths.{data_first};
 
@@ -25,7 +27,7 @@ pub struct PhysicalFormat {
     pub density: u8,
     /// The distance of two tracks by its number, below 16: 0 is 0.74 micrometres.
     pub pitch: u8,
-    /// The first sector of the Data Zone, 030000.
+    /// The first sector of the Data Zone, 030000; `info` prints it.
     pub first: u32,
     /// The last sector of the Data Zone, a number of 24 bits.
     pub last: u32,
@@ -75,8 +77,10 @@ impl PhysicalFormat {
     ghost use Rattle.dvd_layout.specs.declared.layout.Shape.TheVariants.{Parallel};
     ghost use Rattle.dvd_control.specs.Format.{HasLeadIn, control_fault, fields_for, fields_in, fields_of, format_bytes, head_bytes};
 
+    /// The physical format in the lead-in of this layer of a disk. Layer 1 has a lead-in on the parallel path alone. A
+    /// disk with two layers has longer channel bits: 0.147 micrometres. What a layout doesn't state is the same on each
+    /// disk that is made: the version, the rate, embossed data, tracks 0.74 micrometres apart, no burst cutting area.
     #[tactic(auto, unfolding(crate::specs::Format::fields_for))]
-    /// The physical format in the lead-in of this layer of a disk.
     pub fn of_layout(layout: &Layout, layer: u8) -> PhysicalFormat
         requires { HasLeadIn layout.now.shape layer }
         ensures { fields_of result ≡ fields_for layout.now layer }
@@ -98,8 +102,8 @@ impl PhysicalFormat {
         }
     }
 
-    #[tactic(auto, unfolding(crate::specs::Format::format_bytes))]
     /// Writes the sector of this format: 17 bytes, and then zeros.
+    #[tactic(auto, unfolding(crate::specs::Format::format_bytes))]
     pub fn to_bytes(&self, out: &mut [u8; 2048])
         ensures { out.new ≡ format_bytes (fields_of self.now) }
     {
@@ -107,7 +111,8 @@ impl PhysicalFormat {
         out[..17].copy_from_slice(&self.head());
     }
 
-    // Its 17 bytes. Before each sector number, three bytes, comes one that is 0.
+    // Its 17 bytes. Before each sector number, three bytes, comes one that is 0. The upper halves of bytes 0 and 1 are
+    // 0: a read-only disk, of 120 mm.
     fn head(&self) -> [u8; 17]
         ensures { result ≡ head_bytes (fields_of self.now) }
     {
@@ -138,14 +143,17 @@ impl PhysicalFormat {
         ]
     }
 
-    #[tactic(auto, using(std::proofs::lemmas::Bool::Decides::nat_tests), unfolding(crate::specs::Format::control_fault, crate::specs::Format::fields_in))]
     /// The format in bytes 0 to 16 of a sector, or the first rule that these break. The rest of the sector isn't read.
-    /// Reserved bits are passed over.
+    /// Reserved bits are passed over. Whether the track path and the last sector of layer 0 fit the layers isn't
+    /// tested.
+    #[tactic(auto, using(std::proofs::lemmas::Bool::Decides::nat_tests), unfolding(crate::specs::Format::control_fault, crate::specs::Format::fields_in))]
     pub fn from_bytes(bytes: &[u8; 2048]) -> Result<PhysicalFormat, ControlFault>
         ensures refused { IfErr result (λ fault. control_fault bytes.now ≡ Some fault) }
         ensures valid { IfOk result (λ format. control_fault bytes.now ≡ None) }
         ensures fields { IfOk result (λ format. fields_of format ≡ fields_in bytes.now) }
     {
+        // The upper four bits of byte 0 are the category, and those of byte 1 the size; both have to be 0. The rules
+        // are tried in the order of the bytes, and faults have whole bytes as they were read.
         if bytes[0] > 15 {
             return Err(ControlFault::Category { byte: bytes[0] });
         }

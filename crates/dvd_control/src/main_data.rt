@@ -7,11 +7,13 @@ ghost use Rattle.dvd_control.specs.MainData.{main_bytes};
 use crate::format::PhysicalFormat;
 use dvd_layout::{BlockPlan, Content, Layout};
 
-// The byte of the reference code.
+// The byte of the reference code, by the standard (ECMA-267, Reference Code Zone).
 const REFERENCE: u8 = 0xAC;
 
 /// Writes the Main Data of frame `f` of an entry of a plan that isn't image: zeros, the reference code, or the control
-/// data. Control data have the physical format of the entry's layer in frame 0 of each block, and zeros in the others.
+/// data. Control data have the physical format of the entry's layer in frame 0 of each block, and zeros in the others:
+/// the standard keeps those for the disk's maker and the content's provider.
+/// It has to be an entry of this layout's plan: then a layer with control data has a lead-in, which a format is of.
 pub fn main_of(layout: &Layout, plan: &BlockPlan, f: usize, out: &mut [u8; 2048])
     requires frame { f < 16 }
     requires entry { IsEntry layout.now plan.now }

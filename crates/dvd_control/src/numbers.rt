@@ -1,4 +1,5 @@
-//! Sector numbers of a physical format: those of a layout, and three bytes for each.
+//! Sector numbers of a physical format: those of a layout, and three bytes for each. `tactic` says to the prover which
+//! definition a proof needs.
 ghost use Rattle.std.specs.Prelude.{◌≡◌, ◌+◌, ◌-◌, ◌<◌, ◌≤◌, ◌^◌};
 ghost use Rattle.dvd_layout.specs.Lengths.{data_first, padded};
 ghost use Rattle.dvd_control.specs.Format.{HasLeadIn, fields_for, number_at, three_bytes};
@@ -7,7 +8,7 @@ use byteorder::{BigEndian, ByteOrder};
 use dvd_layout::{DATA_FIRST, Layout, Shape};
 
 // The last of `sectors` data sectors, which fill whole ECC blocks from `first` on. Zero sectors fill the last block, so
-// the Data Zone ends with it.
+// the Data Zone ends with it. `first` isn't 0, so that one less than the end is a number even for no sectors.
 fn last_from(first: u32, sectors: u32) -> u32
     requires begins { 0 < first }
     requires ends { first + padded sectors ≤ 2 ^ 24 }
@@ -16,7 +17,7 @@ fn last_from(first: u32, sectors: u32) -> u32
     first + 16 * sectors.div_ceil(16) - 1
 }
 
-// The last sector of the data of layer 0.
+// The last sector of the data of layer 0. The opposite path needs it by itself too.
 pub(crate) fn last_of_layer_0(layout: &Layout) -> u32
     ensures { result ≡ data_first + padded layout.now.sectors0 - 1 }
 {
@@ -24,7 +25,8 @@ pub(crate) fn last_of_layer_0(layout: &Layout) -> u32
 }
 
 // The last sector of the Data Zone that the lead-in of a layer names. On the parallel path each layer has a Data Zone
-// of its own. On the opposite path one goes over both.
+// of its own. On the opposite path one goes over both. A layer has a lead-in where it is 0, or 1 on the parallel path.
+// The clauses `behind` and `number` are what a format's ghost fields need.
 #[tactic(auto, unfolding(crate::specs::Format::fields_for))]
 pub(crate) fn last_of(layout: &Layout, layer: u8) -> u32
     requires { HasLeadIn layout.now.shape layer }
@@ -35,6 +37,8 @@ pub(crate) fn last_of(layout: &Layout, layer: u8) -> u32
     match layout.shape {
         Shape::Single => last_of_layer_0(layout),
         Shape::Parallel if layer == 0 => last_of_layer_0(layout),
+        // The data of layer 1 begin at `second_first`: 030000 on the parallel path, and on the opposite one the
+        // complement of layer 0's last sector number.
         Shape::Parallel | Shape::Opposite => last_from(layout.second_first(), layout.sectors1),
     }
 }

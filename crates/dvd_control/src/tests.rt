@@ -72,6 +72,37 @@ fn sectors_that_break_a_rule_are_refused(rt: HostRuntime) {
     }
 }
 
+// The physical format of one layer of 16 sectors, with another byte.
+fn format_with(at: usize, byte: u8) -> Result<PhysicalFormat, ControlFault> {
+    let mut bytes = sector(&SINGLE);
+    if at < bytes.len() {
+        bytes[at] = byte;
+    }
+    PhysicalFormat::from_bytes(&bytes)
+}
+
+#[test]
+fn formats_are_alike_in_all_fields(rt: HostRuntime) {
+    let formats = [
+        format_with(0, 0x01),
+        format_with(0, 0x00),
+        format_with(1, 0x01),
+        format_with(2, 0x21),
+        format_with(2, 0x11),
+        format_with(2, 0x02),
+        format_with(3, 0x10),
+        format_with(3, 0x01),
+        format_with(11, 0x1F),
+        format_with(15, 0x01),
+    ];
+    for (i, format) in formats.iter().enumerate() {
+        assert!(rt; format.is_ok());
+        for (j, other) in formats.iter().enumerate() {
+            assert_eq!(rt; *format == *other, i == j);
+        }
+    }
+}
+
 // The first byte of frame 0 and the last of frame 1 of entry k, or zeros where it is image.
 fn outer_bytes(layout: &Layout, k: u64) -> (u8, u8) {
     let mut first = [0; 2048];

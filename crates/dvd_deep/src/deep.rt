@@ -17,6 +17,7 @@ use std::alloc::Global;
 pub struct Deep {
     pub(crate) rows: Box<Rows>,
     marks: Box<Marks>,
+    // No code reads it: contracts do, so that nobody reads rows that mean nothing.
     has_found: bool,
 }
 
@@ -37,7 +38,8 @@ impl Deep {
     /// Searches for the block of a captured one by up to four rounds. Each round first replaces rows by the codewords
     /// near them. Then it replaces columns likewise, with the failed rows as marks, or else with the marks that are
     /// left in the column. Returns the number of the first round that finishes: all columns are answered, and all rows
-    /// are then codewords. Where none does, no block is found.
+    /// are then codewords. Where none does, no block is found, and the rows mean nothing. What an earlier search found
+    /// is lost in each case; `work` stays.
     pub fn search(&mut self, work: &Work) -> Option<u8>
         requires stage { HasBlock (stage_of work.now) }
         ensures round { result ≡ deep_round (rows_of work.now) (marks_of_work work.now) }
@@ -50,7 +52,8 @@ impl Deep {
         round
     }
 
-    /// The byte in row `i` at place `j` of the block that was found.
+    /// The byte in row `i` at place `j` of the block that the last search found. `sectors` gives the Main Data; tests
+    /// look at bytes.
     pub fn byte(&self, i: usize, j: usize) -> u8
         requires found { IsTrue (has_found self.now) }
         requires row { i < 208 }

@@ -1,4 +1,10 @@
-//! Rounds over the state of a search: a row step, a column step, and the test whether the round finishes.
+//! Rounds over the state of a search: a row step, a column step, and the test whether the round finishes. The state is
+//! the rows of a block with a mark for each place. A row or column is answered where a codeword is near it: it becomes
+//! that and loses its marks. Others stay as they are, for the next round. A round finishes where all columns are
+//! answered, and all rows are codewords after that.
+//! In clauses `AreWide` says that each row has 182 bytes. The type has this too, but of an array in a list the checker
+//! doesn't know the length: so a step ensures it, and the next one requires it. `TellsMarked` says that a row that
+//! isn't noted has no mark. `HasBlock` says that a block was received: `Work` has no rows to read before.
 ghost use Rattle.std.specs.Prelude.{◌≡◌, ◌↔◌, ◌+◌, ◌<◌, ◌≤◌, ℕ, IsTrue, true, IfSome, Some, false, if◌then◌else◌, is_some, length, replicate, slice_index_or, slice_set, unwrap_or};
 ghost use Rattle.std.specs.List.{list_all};
 ghost use Rattle.std.specs.Option.{option_or};
@@ -22,7 +28,8 @@ pub(crate) type Rows = [[u8; 182]; 208];
 /// The marks of these rows: 4,784 bytes.
 pub(crate) type Marks = [RowMarks; 208];
 
-// The most rounds of a search. Each is two passes more, so that their number bounds the work for a block.
+// The most rounds of a search. Each is two passes more, so that their number bounds the work for a block. Another bound
+// would do; the tests have damage that takes each number of rounds up to four, and one more.
 const MOST_ROUNDS: u8 = 4;
 
 /// Sets rows and marks to those of a received block. They are copies, since rounds change both.
@@ -37,7 +44,7 @@ pub(crate) fn read_block(work: &Work, rows: &mut Rows, marks: &mut Marks)
 }
 
 /// Plays up to four rounds. Returns the number of the first that finishes; rows and marks are then the state that it
-/// leaves.
+/// leaves. Where none finishes they are what four rounds leave, of which nothing is said and which nobody reads.
 pub(crate) fn play_rounds(rows: &mut Rows, marks: &mut Marks) -> Option<u8>
     ensures first { result ≡ first_round (buffered_state rows.old marks.old) }
     ensures state { IfSome result (λ t. buffered_state rows.new marks.new ≡ after_rounds t (buffered_state rows.old marks.old)) }
@@ -50,7 +57,7 @@ pub(crate) fn play_rounds(rows: &mut Rows, marks: &mut Marks) -> Option<u8>
     None
 }
 
-// Plays one round. Returns whether it finishes.
+// Plays one round. Returns whether it finishes. The failed rows are those of this round, and known to it alone.
 fn play_round(rows: &mut Rows, marks: &mut Marks) -> bool
     ensures state { buffered_state rows.new marks.new ≡ round (buffered_state rows.old marks.old) }
     ensures finishes { result ≡ finishes (buffered_state rows.old marks.old) }
@@ -61,7 +68,7 @@ fn play_round(rows: &mut Rows, marks: &mut Marks) -> bool
     answered && are_codewords(rows)
 }
 
-// The row step. Also sets which rows fail.
+// The row step. Also sets which rows fail, which the column step needs.
 fn answer_rows(rows: &mut Rows, marks: &mut Marks, failed: &mut [bool; 208])
     ensures state { buffered_state rows.new marks.new ≡ row_step (buffered_state rows.old marks.old) }
     ensures failed { failed.new ≡ failed_marks (buffered_state rows.old marks.old) }
@@ -74,7 +81,7 @@ fn answer_rows(rows: &mut Rows, marks: &mut Marks, failed: &mut [bool; 208])
 }
 
 // Answers row `i`: if there is a codeword near it, the row becomes that and loses its marks. Returns whether there is
-// one.
+// one. It is lent all rows, so that its clauses say that the others stay; `wide` and `height` are for callers' proofs.
 fn answer_row(code: &Pi, rows: &mut Rows, marks: &mut Marks, i: usize) -> bool
     requires { i < 208 }
     ensures answered { result ≡ is_some (row_near (buffered_state rows.old marks.old) i) }
@@ -104,7 +111,8 @@ fn answer_word<const N: usize, const R: usize>(
     ensures word { word.new ≡ unwrap_or (near_of N R word.old marks.now) word.old }
     ensures size { length word.new ≡ N }
 {
-    // A word with more marks than parity bytes isn't answered, even if it is a codeword.
+    // A word with more marks than parity bytes isn't answered, even if it is a codeword. `decode` asks this too; here
+    // it comes before the test below, which looks at no mark.
     if Erasures::new(marks, R).is_none() {
         return false;
     }
@@ -119,7 +127,8 @@ fn answer_word<const N: usize, const R: usize>(
 }
 
 // The column step. Returns whether all columns are answered. An answered column loses its own marks alone, which no
-// other column reads, so that all are cleared at the end.
+// other column reads, so that all are cleared at the end. `AreWide` is for the prover alone, as every `Rows` has it:
+// that a byte set at place `j` of a row is there is proved by the row's length.
 fn answer_columns(rows: &mut Rows, marks: &mut Marks, failed: &[bool; 208]) -> bool
     requires wide { AreWide rows.old }
     ensures state { buffered_state rows.new marks.new ≡ column_step failed.now (buffered_state rows.old marks.old) }
@@ -129,6 +138,8 @@ fn answer_columns(rows: &mut Rows, marks: &mut Marks, failed: &[bool; 208]) -> b
     let marked = marked_rows(marks);
     let mut answered = [false; 182];
     let mut all = true;
+    // Also past a column without an answer: each that is answered may help a row of the next round. Their order doesn't
+    // matter, since each reads and writes its own bytes alone.
     for j in 0..182usize {
         let is_answered = answer_column(&code, rows, marks, &marked, failed, j);
         answered[j] = is_answered;
@@ -150,7 +161,7 @@ fn marked_rows(marks: &Marks) -> [bool; 208]
 }
 
 // Answers column `j`: if the first or the second try finds a codeword, the column becomes that. Returns whether one is
-// found.
+// found. It is decoded as a copy, since its bytes lie in all rows; where none is found nothing changes.
 fn answer_column(
     code: &Po,
     rows: &mut Rows,
@@ -176,7 +187,8 @@ fn answer_column(
 }
 
 // Answers the word of column `j`: with the failed rows as its marks, or else with its own marks. The first try believes
-// no byte of a failed row. Where these are too many, its own marks may be fewer.
+// no byte of a failed row. Where these are too many, its own marks may be fewer. A try without an answer leaves the
+// word.
 fn answer_column_word(
     code: &Po,
     word: &mut [u8; 208],
@@ -216,7 +228,8 @@ fn own_marks(marks: &Marks, marked: &[bool; 208], j: usize) -> [bool; 208]
     own
 }
 
-// The mark of column `j` in row `i`.
+// The mark of column `j` in row `i`. It is by itself for its proof, which needs that a row that isn't marked has none:
+// `tactic` names the lemma that says so.
 #[tactic(auto, using(crate::proofs::MarksTaken::unmarked))]
 fn own_mark(marks: &Marks, marked: &[bool; 208], i: usize, j: usize) -> bool
     requires row { i < 208 }
@@ -227,7 +240,7 @@ fn own_mark(marks: &Marks, marked: &[bool; 208], i: usize, j: usize) -> bool
     marked[i] && marks[i].get(j)
 }
 
-// Sets column `j`, and nothing else.
+// Sets column `j`, its byte in each row, and nothing else.
 fn put_column(rows: &mut Rows, j: usize, word: &[u8; 208])
     requires place { j < 182 }
     requires wide { AreWide rows.old }
@@ -269,7 +282,7 @@ fn are_codewords(rows: &Rows) -> bool
     ensures { result ≡ list_all (vanishes_at_all 10) rows.now }
 {
     for group in 0..7usize {
-        // The last 32 rows begin at row 176.
+        // 208 is no multiple of 32: the last 32 rows begin at row 176, and some are tested twice.
         if !group_are_codewords(rows, (32 * group).min(176)) {
             return false;
         }
@@ -277,7 +290,7 @@ fn are_codewords(rows: &Rows) -> bool
     true
 }
 
-// Whether the 32 rows from `top` on are codewords.
+// Whether the 32 rows from `top` on are codewords: their values at alpha^0 to alpha^9 are all 0. 32 are tested at once.
 fn group_are_codewords(rows: &[[u8; 182]], top: usize) -> bool
     requires { top + 32 ≤ length rows.now }
     ensures { IsTrue result ↔ ((n : ℕ) → n < 32 → vanishes_at_all 10 (line rows.now (top + n)) ≡ true) }

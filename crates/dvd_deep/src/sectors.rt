@@ -1,4 +1,5 @@
-//! The checks of the sixteen data frames of a block that was found, and their Main Data.
+//! The checks of the sixteen data frames of a block that was found, and their Main Data. `HasNumbers` says that the
+//! numbers of an entry's sixteen sectors have 24 bits, as those of every plan have.
 ghost use Rattle.std.specs.Prelude.{◌≡◌, ◌*◌, ◌+◌, ◌<◌, ◌++◌, IfErr, IsTrue, None, OnErr, OnOk, Some, length, replicate, take};
 ghost use Rattle.std.specs.List.{flat_map};
 ghost use Rattle.dvd_block.specs.Buffers.{piece_bytes};
@@ -16,7 +17,7 @@ impl Deep {
 
     /// Checks the sixteen data frames of the block that was found, as those of an entry of a plan, and writes their
     /// unscrambled Main Data, 2,048 bytes each. The error is the cause of the first frame that has one; all bytes are 0
-    /// then.
+    /// then. `found` is asked for since the rows mean nothing where the last search found none.
     pub fn sectors(&self, plan: &BlockPlan, out: &mut Piece) -> Result<(), Cause>
         requires found { IsTrue (has_found self.now) }
         requires numbers { HasNumbers plan.now }
@@ -40,6 +41,7 @@ fn read_frames(rows: &Rows, plan: &BlockPlan, out: &mut [u8]) -> Result<(), Caus
     ensures zeros { OnErr result (out.new ≡ replicate 32768 0) }
     ensures size { length out.new ≡ 32768 }
 {
+    // A sector is read into a buffer of its own, since `read_frame_at` asks for an array and `out` is a slice.
     let mut main = [0; 2048];
     for f in 0..16usize {
         if let Err(cause) = read_frame_at(rows, plan, f, &mut main) {
@@ -51,7 +53,7 @@ fn read_frames(rows: &Rows, plan: &BlockPlan, out: &mut [u8]) -> Result<(), Caus
     Ok(())
 }
 
-// Writes a sector after those before it.
+// Writes a sector after those before it. Only these are ensured to stay, so the sectors are written in their order.
 fn put_sector(out: &mut [u8], f: usize, main: &[u8; 2048])
     requires size { length out.old ≡ 32768 }
     requires frame { f < 16 }

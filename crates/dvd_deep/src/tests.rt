@@ -17,7 +17,7 @@ const FIRST: BlockPlan = BlockPlan {
     content: Content::Image(0),
 };
 
-// A number of chains of lost places, and what a search answers.
+// A number of chains of lost places (`lose_chains`), and what a search answers: the round that finishes.
 const CHAINS: [(usize, Option<u8>); 5] = [
     (0, Some(1)),
     (1, Some(2)),
@@ -52,7 +52,10 @@ fn lose(work: &mut Work, i: usize, j: usize) {
     }
 }
 
-// Loses eleven places in each of seventeen rows a chain.
+// Loses eleven places in each of seventeen rows a chain. Eleven are one more than a row corrects, and seventeen failed
+// rows one more than a column does. So round 1 gives back only columns with few marks of their own: 40 and 41, which
+// leave ten marks in each row of the first chain. Round 2 gives back these rows, and then the columns by which the next
+// chain's rows are left with ten, and so on: each chain takes a round more.
 fn lose_chains(work: &mut Work, chains: usize)
     requires { chains ≤ 4 }
 {
@@ -78,7 +81,7 @@ fn lose_row(work: &mut Work, chain: usize, r: usize)
     lose(work, 17 * chain + r, link);
 }
 
-// What a search answers where a block was received.
+// What a search answers where a block was received, which `search` requires.
 fn search(deep: &mut Deep, work: &Work) -> Option<u8> {
     if work.stage() == Stage::Fetched {
         deep.search(work)
@@ -99,7 +102,8 @@ fn each_chain_takes_a_round(rt: HostRuntime) -> Result<(), Fail> {
     Ok(())
 }
 
-// What is found of the first data block where a round gives it back: its second byte, and the result for its frames.
+// What is found of the first data block where a round gives it back: its second byte, which is 03 by the ID 00030000 of
+// its first frame, and the result for its frames.
 fn read(deep: &mut Deep, work: &Work, piece: &mut Piece) -> Option<(u8, Result<(), Cause>)> {
     if work.stage() == Stage::Fetched && deep.search(work).is_some() {
         Some((deep.byte(0, 1), deep.sectors(&FIRST, piece)))

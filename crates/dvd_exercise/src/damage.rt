@@ -1,5 +1,8 @@
 //! Damage to a received block: bad rows, lost rows, and single errors in all other rows. All of it is drawn, and never
-//! more than the bound of two-pass decoding allows, so that reading has to give the block back.
+//! more than the bound of two-pass decoding allows, so that reading has to give the block back. In each function the
+//! order of the draws is part of its contract, since the same seed has to damage the same bytes. The stage is Fetched,
+//! that of a received block without answers, and stays so. In clauses `IsChanged` says that so many places of a list
+//! have new values, and all others stay; `HasErrors` that a row has the single errors that are drawn from a state.
 ghost use Rattle.std.specs.Prelude.{◌≡◌, ℕ, ◌+◌, ◌*◌, ◌<◌, ◌≤◌, true, false, [], length, replicate, slice_set, bit_xor};
 ghost use Rattle.coding.specs.Product.{line, place};
 ghost use Rattle.dvd_capture.specs.Kept.{KeepsFound};
@@ -31,14 +34,16 @@ pub fn hurt(rand: &mut Rand, work: &mut Work)
     ensures stage { stage_of work.new ≡ Fetched }
     ensures found { KeepsFound work.old work.new }
 {
-    // The other rows come last: how many bytes they draw depends on what is drawn on the way.
+    // The other rows come last: how many bytes they draw depends on what is drawn on the way. Bad, lost and other rows
+    // are different rows, so that none is damaged twice.
     let plan = Plan::draw(rand);
     combine_rows(&plan, rand, work);
     lose_rows(&plan, work);
     hurt_others(&plan, rand, work);
 }
 
-// The number of bad rows, the number of lost rows, and the first of these rows.
+// The number of bad rows, the number of lost rows, and the first of these rows. The rows aren't listed, since each is
+// computed from its number by `row`.
 #[derive(Drop)]
 struct Plan {
     bad: usize,
@@ -52,7 +57,7 @@ struct Plan {
 }
 
 impl Plan {
-    // Draws the three numbers, a word each.
+    // Draws the three numbers, a word each. The prover unfolds `state_after`, the state after so many words.
     #[tactic(auto, unfolding(crate::specs::Generator::state_after))]
     fn draw(rand: &mut Rand) -> Plan
         ensures bad { result.bad ≡ bad_count (state_of rand.old) }
@@ -60,7 +65,8 @@ impl Plan {
         ensures start { result.start ≡ start_row (state_of rand.old) }
         ensures state { state_of rand.new ≡ state_after (state_of rand.old) 3 }
     {
-        // A bad row takes two of the sixteen parity bytes of a column, and a lost one takes one.
+        // A bad row takes two of the sixteen parity bytes of a column, and a lost one takes one. At most eight are bad,
+        // so the second divisor is 1 at least.
         let bad = rand.word() % 9;
         let lost = rand.word() % (17 - 2 * bad);
         let start = rand.word() % 208;
@@ -72,7 +78,9 @@ impl Plan {
     }
 
     // The bad or lost row with the number `turn`; the bad rows come first. 5 and 208 have no factor in common, so that
-    // none comes twice.
+    // none comes twice. Any such step would do, 1 too, which would leave all in two or three of the sixteen frames. By
+    // 5 a frame has at most three of them in its twelve rows, and the damage is of many frames. At most sixteen are
+    // used; the clause allows all 208 numbers, for which the rows differ too.
     fn row(&self, turn: usize) -> usize
         requires { turn < 208 }
         ensures row { result ≡ damaged_row self.now.start turn }
@@ -81,7 +89,7 @@ impl Plan {
         (self.start + 5 * turn) % 208
     }
 
-    // Whether a row is bad or lost.
+    // Whether a row is bad or lost. The prover unfolds `is_hit`, which is defined by the same search.
     #[tactic(auto, unfolding(crate::specs::Damage::is_hit))]
     fn hits(&self, row: usize) -> bool
         ensures { result ≡ is_hit self.now.start (self.now.bad + self.now.lost) row }
@@ -91,7 +99,8 @@ impl Plan {
 }
 
 // Sets one received byte to its exclusive or with another byte. Its mark stays. Where the other byte isn't 0 this
-// changes any byte, so that damage doesn't depend on the sectors.
+// changes any byte, so that damage doesn't depend on the sectors. `damage` sets byte and mark, so the mark is read
+// first. `width` is for callers' proofs, which don't know the length of a row in a list.
 fn combine(work: &mut Work, i: usize, j: usize, byte: u8)
     requires stage { stage_of work.old ≡ Fetched }
     requires row { i < 208 }
@@ -106,8 +115,8 @@ fn combine(work: &mut Work, i: usize, j: usize, byte: u8)
     work.damage(i, j, received ^ byte, mark);
 }
 
-// Sets each byte of a row to its exclusive or with a drawn one. Some drawn bytes may be 0, which change nothing: a bad
-// row may be any row.
+// Sets each byte of a row to its exclusive or with a drawn one. Some drawn bytes may be 0, which change nothing: the
+// bound counts the row as bad whatever becomes of it. 182 words are drawn, whatever the row has.
 fn combine_row(rand: &mut Rand, work: &mut Work, i: usize)
     requires stage { stage_of work.old ≡ Fetched }
     requires row { i < 208 }
@@ -136,7 +145,7 @@ fn lose_row(work: &mut Work, i: usize)
 }
 
 // Sets up to 5 bytes of a row to their exclusive or with drawn ones, made odd so that none is 0. 31 and 182 have no
-// factor in common, so that no place comes twice.
+// factor in common, so that no place comes twice. Any such step would do; 31 spreads five over the whole row.
 fn hurt_row(rand: &mut Rand, work: &mut Work, i: usize)
     requires stage { stage_of work.old ≡ Fetched }
     requires row { i < 208 }
@@ -146,7 +155,7 @@ fn hurt_row(rand: &mut Rand, work: &mut Work, i: usize)
     ensures marks { marks_of_work work.new ≡ marks_of_work work.old }
     ensures rest { KeepsRest work.old work.new }
 {
-    // At most five, which the ten parity bytes of a row correct.
+    // At most five, which the ten parity bytes of a row correct. So none of these rows fails in the first pass.
     let count = (rand.word() % 6) as usize;
     let first = (rand.word() % 182) as usize;
     for u in 0..count {
@@ -168,7 +177,7 @@ fn combine_rows(plan: &Plan, rand: &mut Rand, work: &mut Work)
     }
 }
 
-// Loses the rows that follow the bad ones in this order.
+// Loses the rows that follow the bad ones in the order of `Plan::row`. It draws nothing.
 fn lose_rows(plan: &Plan, work: &mut Work)
     requires stage { stage_of work.old ≡ Fetched }
     ensures received { IsChanged [] plan.now.lost (λ t. damaged_row plan.now.start (plan.now.bad + t)) (λ t. replicate 182 0) (rows_of work.old) (rows_of work.new) }

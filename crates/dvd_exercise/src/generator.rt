@@ -22,20 +22,20 @@ impl Rand {
         }
     }
 
-    /// Draws the next word, which is the new state.
+    /// Draws the next word, which is the new state. `tactic` lets the prover unfold the definition of a step.
     #[tactic(auto, unfolding(crate::specs::Generator::step))]
     pub fn word(&mut self) -> u64
         ensures word { result ≡ step (state_of self.old) }
         ensures state { state_of self.new ≡ step (state_of self.old) }
     {
-        // By these three shifts a state comes again only after all states but 0.
+        // The three shifts are one of the known triples by which a state comes again only after all states but 0.
         self.state ^= self.state << 13;
         self.state ^= self.state >> 7;
         self.state ^= self.state << 17;
         self.state
     }
 
-    /// Draws the next word, and returns its top eight bits.
+    /// Draws the next word, and returns its top eight bits. Any eight would do for a test.
     pub fn byte(&mut self) -> u8
         ensures byte { result ≡ step (state_of self.old) / 2 ^ 56 }
         ensures state { state_of self.new ≡ step (state_of self.old) }
@@ -44,7 +44,7 @@ impl Rand {
     }
 }
 
-/// Draws the 32,768 bytes of a piece in order.
+/// Draws the 32,768 bytes of a piece in order: the sixteen sectors of a block. Nothing of what it had is left.
 pub fn fill_piece(rand: &mut Rand, piece: &mut Piece)
     ensures bytes { piece_bytes piece.new ≡ bytes_from (state_of rand.old) 32768 }
     ensures state { state_of rand.new ≡ state_after (state_of rand.old) 32768 }
@@ -52,7 +52,7 @@ pub fn fill_piece(rand: &mut Rand, piece: &mut Piece)
     fill(rand, piece.bytes_mut());
 }
 
-// Draws all bytes of a buffer in order.
+// Draws all bytes of a buffer in order, a word for each. Its clauses are of any length; a piece is one of 32,768.
 fn fill(rand: &mut Rand, bytes: &mut [u8])
     ensures bytes { bytes.new ≡ bytes_from (state_of rand.old) (length bytes.old) }
     ensures state { state_of rand.new ≡ state_after (state_of rand.old) (length bytes.old) }

@@ -1,5 +1,6 @@
 //! A self-test of a decoder: pseudo-random sectors, and damage to a received ECC block (ECMA-267, clause 18) within the
 //! bound of two-pass decoding. The same seed draws the same sectors and the same damage.
+//! What is made and read back of them is the command's own: `exercise`, in dvd_commands.
 #![tactic(auto)]
 
 mod damage; // what is damaged in a block

@@ -1,5 +1,9 @@
 //! The two codes of a data frame that detect errors: the IED over its ID (ECMA-267, 16.2)
 //! and the EDC over its first 2,060 bytes (16.4).
+//!
+//! A register is what dividing all bytes before has left, 32 bits. In contracts `divided_from register bytes` is what
+//! the division leaves once these bytes are read too. So a step is right where it leaves the same for whatever bytes
+//! follow.
 ghost use Rattle.std.specs.Prelude.{◌≡◌, ℕ, ◌+◌, ◌≤◌, List, [], ◌∷◌, ◌++◌, length};
 ghost use Rattle.std.specs.List.{concat};
 ghost use Rattle.coding.specs.Words.{IsCodeword};
@@ -14,7 +18,8 @@ use crate::remainders::{remainder_of, remainder_of_word};
 use byteorder::{BigEndian, ByteOrder};
 use rs_code::Ied;
 
-/// The IED of an ID: the two bytes with which its four bytes are a codeword of 6 bytes with 2 parity bytes.
+/// The IED of an ID: the two bytes with which its four bytes are a codeword of 6 bytes with 2 parity bytes. It is
+/// public for the C library, as `edc` is. Its code is made anew by each call: the generator is a few products.
 pub fn ied(id: Id) -> [u8; 2]
     ensures value { result ≡ ied_of id }
     ensures codeword { IsCodeword 6 2 (word_bytes id ++ result) }
@@ -33,7 +38,9 @@ pub fn edc(bytes: &[u8]) -> [u8; 4]
     edc_of_parts(bytes, &[])
 }
 
-/// The EDC of two lists of bytes, as if the second came after the first.
+/// The EDC of two lists of bytes, as if the second came after the first. A frame that is read has its first twelve
+/// bytes and its unscrambled Main Data in two places, and needn't copy them together. It is inlined, so
+/// that `folded` knows the lengths.
 #[inline(always)]
 pub(crate) fn edc_of_parts(front: &[u8], back: &[u8]) -> [u8; 4]
     ensures { result ≡ edc_of (front.now ++ back.now) }
@@ -49,7 +56,8 @@ pub(crate) fn edc_of_parts(front: &[u8], back: &[u8]) -> [u8; 4]
 fn divide_parts(front: &[u8], back: &[u8]) -> u32
     ensures { divided_from result [] ≡ divided_from 0 (front.now ++ back.now) }
 {
-    // The bytes of a frame before its EDC are 2,060. Only longer lists are divided word by word.
+    // The bytes of a frame before its EDC are 2,060. Only longer lists are divided word by word. The lengths are
+    // compared without a sum, which could overflow.
     if front.len() <= 2080 && back.len() <= 2080 - front.len() {
         return folded(front, back);
     }
@@ -58,7 +66,8 @@ fn divide_parts(front: &[u8], back: &[u8]) -> u32
 
 // The remainder of at most 2,080 bytes, as many as 65 chunks of 32: zeros in front of them change nothing. Each fold
 // needs 32 chunks after those that it leaves out. So the first leaves 32 chunks, which are 64 of half the size for the
-// next. After four folds by vectors 128 bytes are left to divide.
+// next. After four folds by vectors 128 bytes are left to divide; a fifth would take 32 steps to spare sixteen words of
+// four. A fold begins where the one before ended.
 // All is inlined: where the lengths are known, only the bytes in front are blanked.
 #[inline(always)]
 fn folded(front: &[u8], back: &[u8]) -> u32
@@ -76,7 +85,7 @@ fn folded(front: &[u8], back: &[u8]) -> u32
     with_bytes(0, &bytes[1952..])
 }
 
-// The remainder of what was read so far, with these bytes more.
+// The remainder of what was read so far, with these bytes more: by words of four bytes, and the last few by themselves.
 fn with_bytes(register: u32, bytes: &[u8]) -> u32
     ensures { (rest : List ℕ) → divided_from result rest ≡ divided_from register (bytes.now ++ rest) }
 {
@@ -99,7 +108,8 @@ fn with_words(register: u32, words: &[[u8; 4]]) -> u32
     next
 }
 
-// Four bytes more at once: the whole register leaves, and what dividing its sum with them leaves is the next.
+// Four bytes more at once: the whole register leaves, and what dividing its sum with them leaves is the next. So no
+// part of the register is shifted.
 fn with_word(register: u32, word: [u8; 4]) -> u32
     ensures { (rest : List ℕ) → divided_from result rest ≡ divided_from register (word ++ rest) }
 {
@@ -112,7 +122,8 @@ fn with_word(register: u32, word: [u8; 4]) -> u32
     ])
 }
 
-// One byte more: its sum with the eight bits that leave the register is divided, and what this leaves is added at the end.
+// One byte more: its sum with the eight bits that leave the register is divided, and what this leaves is added at the
+// end.
 fn with_byte(register: u32, byte: u8) -> u32
     ensures { (rest : List ℕ) → divided_from result rest ≡ divided_from register (byte ∷ rest) }
 {

@@ -1,8 +1,9 @@
 //! The division for the EDC (ECMA-267, 16.4) of whole chunks of bytes.
 //!
 //! The square of a sum of polynomials over the two bits is the sum of their squares. So with x^32 + x^31 + x^4 + 1,
-//! x^(32 n) + x^(31 n) + x^(4 n) + 1 is a multiple of the divisor for each power of two n, and a chunk of n bits may be added
-//! to those 1, 28 and 32 chunks after it and then left out.
+//! x^(32 n) + x^(31 n) + x^(4 n) + 1 is a multiple of the divisor for each power of two n, and a chunk of n bits may be
+//! added to those 1, 28 and 32 chunks after it and then left out. In contracts `divided_from 0` is what division
+//! leaves, and `plus_front` adds a list to the front of another.
 ghost use Rattle.std.specs.Prelude.{◌≡◌, ℕ, ◌+◌, ◌*◌, ◌^◌, ◌≤◌, ◌++◌, length, drop, replicate};
 ghost use Rattle.coding.specs.BitDivision.{plus_front};
 ghost use Rattle.dvd_frame.specs.Inner.Registers.{divided_from};
@@ -10,9 +11,11 @@ ghost use Rattle.dvd_frame.specs.Inner.Registers.{divided_from};
 use crate::parts::load;
 use std::simd::prelude::*;
 
-/// Folds away as many chunks of W bytes, from a place on: what division leaves of the bytes after them is then what it left of
-/// all from there on. What is added to the next chunk is carried in a register: it is read at once, and needn't be
-/// stored before.
+/// Folds away as many chunks of W bytes, from a place on: what division leaves of the bytes after them is then what it
+/// left of all from there on. What is added to the next chunk is carried in a register: it is read at once, and needn't
+/// be stored before. W is 32 at most, a vector of the machine, and a power of two, without which the multiple above is
+/// none. What is then in the bytes that are folded away means nothing. `count` may be any number that leaves 32 chunks
+/// after those. This and its parts are inlined, so that vectors needn't pass through memory.
 #[inline(always)]
 pub(crate) fn fold<const W: usize>(bytes: &mut [u8], from: usize, count: usize)
     requires { from + W * count + 32 * W ≤ length bytes.old }
@@ -25,10 +28,12 @@ pub(crate) fn fold<const W: usize>(bytes: &mut [u8], from: usize, count: usize)
         carried = push(bytes, at, carried);
         at += W;
     }
+    // The next chunk isn't folded by this call, so what is carried to it is stored.
     add(bytes, at, carried);
 }
 
-// One chunk and what is carried to it, added to those 28 and 32 chunks after it, and carried to the next.
+// One chunk and what is carried to it, added to those 28 and 32 chunks after it, and carried to the next. The contract
+// says that the rest, with what is carried added to its first chunk, leaves the same remainder as before.
 #[inline(always)]
 fn push<const W: usize>(bytes: &mut [u8], at: usize, carried: Simd<u8, W>) -> Simd<u8, W>
     requires { at + 33 * W ≤ length bytes.old }
@@ -42,7 +47,7 @@ fn push<const W: usize>(bytes: &mut [u8], at: usize, carried: Simd<u8, W>) -> Si
     taken
 }
 
-// Adds W bytes to those from a place on.
+// Adds W bytes to those from a place on. All others stay.
 #[inline(always)]
 fn add<const W: usize>(bytes: &mut [u8], at: usize, lanes: Simd<u8, W>)
     requires { at + W ≤ length bytes.old }

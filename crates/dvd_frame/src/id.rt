@@ -9,7 +9,7 @@ use std::marker::Model;
 /// place: a disk that sets them otherwise is still read.
 const PLACE_BITS: u32 = 0x0DFF_FFFF;
 
-/// The part of the disk that a sector belongs to, b27 and b26 of its ID.
+/// The part of the disk that a sector belongs to, b27 and b26 of its ID: 0 to 3 in this order.
 #[derive(Clone, Copy, Debug, PartialEq, Eq)]
 pub enum Area {
     DataZone,
@@ -18,7 +18,8 @@ pub enum Area {
     Middle,
 }
 
-/// The word of 32 bits that identifies a sector. Contracts see it as a number.
+/// The word of 32 bits that identifies a sector. Contracts see it as a number. Any word is an ID: one that was read may
+/// have bits that no place has. `inverse` gets the word back from the number: the prover needs it for `Copy` and `==`.
 #[derive(Clone, Copy, Debug, PartialEq, Eq)]
 pub struct Id(u32);
 
@@ -32,7 +33,7 @@ impl Model for Id {
 
 impl Id {
     /// The ID of a sector of a read-only disk. `dim` sets b29, as a disk of two layers has it;
-    /// format type, tracking and reserved bits are 0.
+    /// format type, tracking and reserved bits are 0. The number has 24 bits of the word, and one bit is the layer.
     pub fn new(area: Area, layer: u8, dim: bool, number: u32) -> Id
         requires layer { layer < 2 }
         requires number { number < 2 ^ 24 }
@@ -44,7 +45,7 @@ impl Id {
             Area::LeadOut => 2 << 26,
             Area::Middle => 3 << 26,
         };
-        // The fields have no bit in common, so that they can be added up.
+        // The fields have no bit in common, so that they can be added up, as the definition does.
         let dim_bit = if dim { 1 << 29 } else { 0 };
         Id(dim_bit + area_bits + u32::from(layer) * (1 << 24) + number)
     }
@@ -98,7 +99,8 @@ impl Id {
         self.0 & 0xFF_FFFF
     }
 
-    /// Whether both name the same area, layer and sector number. The other bits aren't compared.
+    /// Whether both name the same area, layer and sector number. The other bits aren't compared, so that `==` is
+    /// stricter.
     pub fn same_place(self, other: Id) -> bool
         ensures { IsTrue result ↔ IsSamePlace self other }
     {

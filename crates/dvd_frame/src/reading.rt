@@ -1,4 +1,5 @@
-//! A data frame that was read: its checks, and its Main Data unscrambled (ECMA-267, 16 and 17).
+//! A data frame that was read: its checks, and its Main Data unscrambled (ECMA-267, 16 and 17). `tactic` says to the
+//! prover which lemmas and definitions a proof needs; it changes nothing of the code.
 ghost use Rattle.std.specs.Prelude.{◌≡◌, ◌≤◌, ◌++◌, None, Some, length, take, drop, IfErr, OnOk};
 ghost use Rattle.std.specs.Str.{bytes_eq};
 ghost use Rattle.dvd_frame.specs.Edc.{edc_of};
@@ -27,8 +28,9 @@ pub enum FrameCause {
     Edc,
 }
 
-/// Checks a frame, and writes its unscrambled Main Data to `out`. The frame has to have a right IED, the area, the layer
-/// and the sector number of `want`, and a right EDC; the first that it lacks is answered, and `out` is then unchanged.
+/// Checks a frame, and writes its unscrambled Main Data to `out`. The frame has to have a right IED, the area, the
+/// layer and the sector number of `want`, and a right EDC; the first that it lacks is answered, and `out` is then
+/// unchanged. CPR_MAI isn't looked at but by the EDC. This is the call of the C library.
 pub fn read_frame(
     frame: &[u8; 2064],
     want: Id,
@@ -45,7 +47,8 @@ pub fn read_frame(
 }
 
 /// Reads a frame as `read_frame` does, straight into `out`: what that is after a cause isn't said. So nothing is copied
-/// for a caller that blanks `out` itself. The scrambling bytes are kept from one frame to the next.
+/// for a caller that blanks `out` itself. The scrambling bytes are kept from one frame to the next; those that are
+/// there make no difference to what is answered.
 #[tactic(auto, using(std::proofs::lemmas::Bool::Decides::nat_tests), unfolding(crate::specs::Frame::frame_cause))]
 pub fn read_frame_into(
     scrambler: &mut Scrambler,
@@ -59,7 +62,7 @@ pub fn read_frame_into(
     ensures main { OnOk result (out.new ≡ main_in frame.now rule) }
 {
     // In this order: a wrong ID names no place, and the ID selects the scrambling bytes without which the EDC means
-    // nothing.
+    // nothing. Once it names the place of `want`, both select the same.
     if !has_right_ied(frame) {
         return Err(FrameCause::Ied);
     }
@@ -74,7 +77,8 @@ pub fn read_frame_into(
     Ok(())
 }
 
-/// The ID that bytes begin with, as it was read.
+/// The ID that bytes begin with, as it was read. It is public for dvd_assemble, which looks at the first row of a
+/// recording frame: a slice, so that a row or a frame will do.
 pub fn found_id(bytes: &[u8]) -> Id
     requires { 4 ≤ length bytes.now }
     ensures { result ≡ found_word bytes.now }
@@ -83,7 +87,7 @@ pub fn found_id(bytes: &[u8]) -> Id
 }
 
 /// Whether the first six bytes are an ID with its right check. The two bytes could correct one of the ID, but that
-/// would hide that the frame is another one.
+/// would hide that the frame is another one. It is public for dvd_assemble too.
 pub fn has_right_ied(bytes: &[u8]) -> bool
     requires { 6 ≤ length bytes.now }
     ensures { result ≡ has_check (take 6 bytes.now) }

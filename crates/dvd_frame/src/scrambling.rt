@@ -1,4 +1,10 @@
 //! Scrambling of Main Data (ECMA-267, 17): to each byte one of a sequence is added, which the ID selects.
+//!
+//! The standard has a register of 15 bits, r14 to r0, that is shifted by one bit: r14 + r10 comes in at r0. Its lowest
+//! eight bits are a scrambling byte, and eight shifts later the next. So all bits are one sequence u, which begins with
+//! the 15 bits of the preset: u(n+15) = u(n) + u(n+4). Bits 0 to 14 of it are r14 to r0, and a window is the 15 bits at
+//! a byte. The square of a sum is the sum of the squares here, so that u(n+15m) = u(n) + u(n+4m) for each power of two
+//! m. In contracts `keys_from preset k n` is n scrambling bytes from byte k on; keys are scrambling bytes.
 ghost use Rattle.std.specs.Prelude.{◌≡◌, ℕ, ◌+◌, ◌^◌, ◌<◌, ◌≤◌, List, bit_xor, slice_index, length, take};
 ghost use Rattle.std.specs.Int.{to_be_bytes, w64};
 ghost use Rattle.coding.specs.Bits.{bits};
@@ -10,7 +16,7 @@ use crate::parts::{load, put};
 use std::marker::Model;
 use std::simd::prelude::*;
 
-/// The initial values of the register by bits b7 to b4 of the ID.
+/// The initial values of the register by bits b7 to b4 of the ID: the table of the standard.
 static PRESETS: [u16; 16] = [
     0x0001, 0x5500, 0x0002, 0x2A00, 0x0004, 0x5400, 0x0008, 0x2800, 0x0010, 0x5000, 0x0020, 0x2001,
     0x0040, 0x4002, 0x0080, 0x0005,
@@ -41,7 +47,8 @@ impl Rule {
     }
 }
 
-/// The initial value of the register at one of the 16 places of the standard's table.
+/// The initial value of the register at one of the 16 places of the standard's table. No other crate calls it or has
+/// a `Keystream`; tests compare both with worked values.
 pub fn preset(index: u8) -> u16
     requires { index < 16 }
     ensures value { result ≡ slice_index presets index }
@@ -74,7 +81,8 @@ impl Keystream {
         Keystream { register: preset }
     }
 
-    /// The next scrambling byte.
+    /// The next scrambling byte. The contract is of any preset and any byte k of it at which the stream may be: the
+    /// stream itself knows neither.
     pub fn next(&mut self) -> u8
         ensures byte { (preset k : ℕ) → self.old ≡ window preset k → result ≡ scrambling_byte preset k }
         ensures after { (preset k : ℕ) → self.old ≡ window preset k → self.new ≡ window preset (k + 1) }
@@ -85,7 +93,8 @@ impl Keystream {
     }
 }
 
-// Eight shifts at once: r6 to r0 move up by eight places, and the eight sums from r14 + r10 to r7 + r3 come in at the end.
+// Eight shifts at once: r6 to r0 move up by eight places, and the eight sums from r14 + r10 to r7 + r3 come in at the
+// end. None of the sums waits for another: the lowest bit in one is r3.
 fn shifted_by_byte(register: u16) -> u16
     requires { register < 2 ^ 15 }
     ensures within { result < 2 ^ 15 }
@@ -95,8 +104,8 @@ fn shifted_by_byte(register: u16) -> u16
     (register & 0x7F) * 256 + sums
 }
 
-/// The scrambling bytes of one preset, as many as a frame has Main Data bytes. They are made when an ID first asks for them,
-/// and kept until an ID of another preset does: the frames of a block have one preset.
+/// The scrambling bytes of one preset, as many as a frame has Main Data bytes. They are made when an ID first asks for
+/// them, and kept until an ID of another preset does: the frames of a block have one preset.
 #[derive(Drop)]
 pub struct Scrambler {
     preset: u16,
@@ -105,7 +114,7 @@ pub struct Scrambler {
 }
 
 impl Scrambler {
-    /// None are made yet.
+    /// None are made yet. It has no `ensures`: the ghost field `made` says what the bytes are, whatever the preset is.
     pub fn new() -> Scrambler {
         // A register of zeros shows zeros at each byte. No ID selects it.
         Scrambler {
@@ -114,7 +123,8 @@ impl Scrambler {
         }
     }
 
-    // Makes the scrambling bytes of an ID, where they aren't those that are kept.
+    // Makes the scrambling bytes of an ID, where they aren't those that are kept. That the bytes are those of the new
+    // preset is the ghost field `made`.
     fn select(&mut self, id: Id)
         ensures { self.new.preset ≡ preset_of id }
     {
@@ -134,7 +144,8 @@ fn preset_for(id: Id) -> u16
     preset((id.word() >> 4 & 15) as u8)
 }
 
-/// Adds to Main Data the scrambling bytes of the ID, as far as the rule says. Twice is once undone.
+/// Adds to Main Data the scrambling bytes of the ID, as far as the rule says; the others stay. Twice is once undone. It
+/// is for the C library, where Main Data come without their frame.
 pub fn scramble(rule: Rule, id: Id, main: &mut [u8; 2048])
     ensures masked { main.new ≡ masked id rule main.old }
     ensures undone { masked id rule main.new ≡ main.old }
@@ -142,7 +153,7 @@ pub fn scramble(rule: Rule, id: Id, main: &mut [u8; 2048])
     scramble_slice(&mut Scrambler::new(), rule, id, main);
 }
 
-// The same where Main Data are within a frame.
+// The same where Main Data are within a frame, and with a scrambler that a caller keeps.
 pub(crate) fn scramble_slice(scrambler: &mut Scrambler, rule: Rule, id: Id, main: &mut [u8])
     requires { length main.old ≡ 2048 }
     ensures { main.new ≡ masked id rule main.old }
@@ -164,11 +175,13 @@ pub(crate) fn scramble_into(
 {
     scrambler.select(id);
     let count = rule.count();
+    // The bytes that aren't scrambled are copied.
     combine_into(&bytes[..count], &scrambler.bytes, &mut main[..count]);
     put(main, count, &bytes[count..]);
 }
 
-// Sets each byte to the sum of another and the key at its place.
+// Sets each byte to the sum of another and the key at its place. There may be more keys than bytes: all 2,048 are made
+// whatever the rule is, so that no list of keys has a length that varies.
 fn combine_into(bytes: &[u8], keys: &[u8], out: &mut [u8])
     requires bytes { length bytes.now ≡ length out.old }
     requires keys { length out.old ≤ length keys.now }
@@ -180,7 +193,8 @@ fn combine_into(bytes: &[u8], keys: &[u8], out: &mut [u8])
     }
 }
 
-// Adds to each byte the key at its place. It is an exclusive or, so that a second time undoes it.
+// Adds to each byte the key at its place. It is an exclusive or, so that a second time undoes it. There may be more
+// keys than bytes.
 fn combine(bytes: &mut [u8], keys: &[u8])
     requires { length bytes.old ≤ length keys.now }
     ensures { (k : ℕ) → k < length bytes.old → slice_index bytes.new k ≡ bit_xor (slice_index bytes.old k) (slice_index keys.now k) }
@@ -190,8 +204,9 @@ fn combine(bytes: &mut [u8], keys: &[u8])
     }
 }
 
-// Sets the scrambling bytes of a preset, as many as a frame has Main Data bytes: eight at a time, and after the first 256
-// by vectors. A vector needs keys from 240 places before it, and 256 is the first place after that where one begins.
+// Sets the scrambling bytes of a preset, as many as a frame has Main Data bytes: eight at a time, and after the first
+// 256 by vectors. A vector needs keys from 240 places before it, and 256 is the first place after that where one
+// begins.
 fn set_keys(preset: u16, keys: &mut [u8; 2048])
     requires { preset < 2 ^ 15 }
     ensures { keys.new ≡ keys_from preset 0 2048 }
@@ -202,7 +217,8 @@ fn set_keys(preset: u16, keys: &mut [u8; 2048])
     }
 }
 
-// Sets the first 256 scrambling bytes of a preset.
+// Sets the first 256 scrambling bytes of a preset, eight at a time: the first sixteen by the register, and each other
+// word by the two before it. The last two words that are made aren't put. The other bytes stay, for `set_keys` to set.
 fn set_first_keys(preset: u16, keys: &mut [u8; 2048])
     requires { preset < 2 ^ 15 }
     ensures { take 256 keys.new ≡ keys_from preset 0 256 }
@@ -228,7 +244,8 @@ fn next_word(stream: &mut Keystream) -> u64
     u64::from_be_bytes(bytes)
 }
 
-// The eight bytes after these two words: each is the sum of those fifteen and eleven places before it.
+// The eight bytes after these two words: each is the sum of those fifteen and eleven places before it, by the sequence
+// at m = 8. In the sixteen bytes of both words these begin at byte 1 and at byte 5.
 fn word_behind(word: u64, next: u64) -> u64
     ensures { (preset k : ℕ) → to_be_bytes w64 word ≡ keys_from preset k 8 → to_be_bytes w64 next ≡ keys_from preset (k + 8) 8
         → to_be_bytes w64 result ≡ keys_from preset (k + 16) 8 }
@@ -238,7 +255,10 @@ fn word_behind(word: u64, next: u64) -> u64
 }
 
 // Sets the 32 bytes after the scrambling bytes up to a place: each is the sum of those 240 and 176 places before it.
-// Bits have u(n+120) = u(n) + u(n+32), and so do bytes at twice these distances: no sum waits for one of the last.
+// This is the sequence at m = 128. At m = 32 the sums would be of bytes 60 and 44 places before, which would be right
+// too, but would wait for the vector just stored. Here the last four aren't read. At m = 256 words would have to make
+// 480 bytes first. It is inlined as all that has vectors is, so that these don't pass through memory; no proof rests on
+// that.
 #[inline(always)]
 fn set_vector(keys: &mut [u8], at: usize)
     requires distance { 240 ≤ at }

@@ -20,7 +20,8 @@ pub enum Content {
 }
 
 impl Content {
-    /// What block `b` of a zone holds, where the first block of the zone has this content.
+    /// What block `b` of a zone holds, where the first block of the zone has this content. Only an image goes on from
+    /// block to block, sixteen sectors each; any other zone holds the same in all of its blocks.
     pub(crate) fn at_block(self, b: u32) -> Content
         requires { image_from self + 16 * b < 2 ^ 32 }
         ensures { result ≡ content_at self b }
@@ -46,7 +47,9 @@ pub struct BlockPlan {
 }
 
 /// The ID of frame `f` of a block; `dim` says whether the disk has two layers.
-/// It is a function and no method, since an entry doesn't know whether the disk has two layers.
+/// It is a function and no method, since an entry doesn't know whether the disk has two layers. Readers give `false`
+/// for `dim`, as `Id::same_place` doesn't compare that bit. The clause `numbers` says that the layer is 0 or 1, and
+/// that the numbers of all sixteen frames have 24 bits; each entry of a plan has it, by a law.
 pub fn id_of(plan: &BlockPlan, dim: bool, f: usize) -> Id
     requires frame { f < 16 }
     requires numbers { HasNumbers plan.now }
@@ -55,7 +58,8 @@ pub fn id_of(plan: &BlockPlan, dim: bool, f: usize) -> Id
     Id::new(plan.area, plan.layer, dim, plan.first + f as u32)
 }
 
-/// Which Main Data bytes of frame `f` of a block are scrambled.
+/// Which Main Data bytes of frame `f` of a block are scrambled: all, zeros and control data too. The Reference Code
+/// Zone is the exception: there only the first 160 of each block's first frame are (ECMA-267, Reference Code Zone).
 pub fn rule_of(content: Content, f: usize) -> Rule
     requires { f < 16 }
     ensures { result ≡ rule_for content f }

@@ -2,7 +2,8 @@
 
 use thiserror::Error;
 
-/// The first rule of a layout that the given lengths break.
+/// The first rule of a layout that the given lengths break. The variants are in the order in which the rules are tried,
+/// and each has the number to report. Reports have words of their own for each, and not the texts here.
 #[derive(Clone, Copy, Debug, PartialEq, Eq, Error)]
 pub enum LayoutFault {
     /// A layer has no sector.

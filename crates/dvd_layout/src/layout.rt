@@ -1,4 +1,5 @@
-//! The lengths of a disk, which make a valid layout.
+//! The lengths of a disk, which make a valid layout. `tactic` says to the prover which lemmas and definitions a proof
+//! needs.
 
 ghost use Rattle.std.specs.Prelude.{◌≡◌, ◌+◌, ◌*◌, ◌%◌, ◌<◌, ◌≤◌, true, false, Some, None, IfOk, IfErr, IsOk, IsTrue};
 ghost use Rattle.dvd_layout.specs.Lengths.{blocks_of, first_fault, has_two_layers, initial_fault, is_opposite, layer_end, most_initial, padded};
@@ -7,7 +8,7 @@ use crate::fault::LayoutFault;
 use crate::plan::DATA_FIRST;
 
 // The longest Initial Zone, in ECC blocks: no sector has the number 0. It ends before 02F000, so that one block more
-// would begin at 0.
+// would begin at 0. The standard leaves its length to the disk; that no number is 0 is a choice of this program.
 const MAX_INITIAL: u32 = 12_031;
 
 // The longest zone after the data, in ECC blocks. They are 030000 sectors: on the opposite path data end at FD0000 at
@@ -19,6 +20,7 @@ const MAX_TAIL: u32 = 12_288;
 const LAST_END: u64 = 0x80_0000;
 
 /// Checks that an Initial Zone may have `initial` ECC blocks, or returns the rule that it breaks.
+/// It is a function of its own for `info`, which reads a lead-in and knows no other length of the disk.
 pub fn check_initial(initial: u32) -> Result<(), LayoutFault>
     ensures refused { IfErr result (λ fault. initial_fault initial ≡ Some fault) }
     ensures valid { IsOk result → initial_fault initial ≡ None }
@@ -72,7 +74,10 @@ pub enum Zones {
 }
 
 /// A valid layout: a shape, the image sectors of each layer, and the lengths in ECC blocks of the Initial Zone and of
-/// each zone after the data.
+/// each zone after the data: one length for all of these, by a choice of this program. Its ghost fields are the rules
+/// that `new` checks: a layout can't be made without proofs of them, so no function of a layout tests its lengths
+/// again. They take no memory, and are public for proofs of the crates above. In them `padded` is the sectors in whole
+/// blocks, and `layer_end` the sector number after a layer and its tail.
 #[derive(Clone, Copy, Debug, PartialEq, Eq)]
 pub struct Layout {
     /// The shape of the disk.
@@ -89,7 +94,8 @@ pub struct Layout {
     pub ghost first_layer: { 0 < sectors0 },
     /// Layer 1 has data too, where there are two layers.
     pub ghost second_layer: { has_two_layers shape ≡ true → 0 < sectors1 },
-    /// Layer 0 is whole ECC blocks, where there are two layers.
+    /// Layer 0 is whole ECC blocks, where there are two layers: the image goes on with layer 1, without padding
+    /// between.
     pub ghost whole_blocks: { has_two_layers shape ≡ true → sectors0 % 16 ≡ 0 },
     /// Layer 1 has no sectors, where there is one layer.
     pub ghost one_layer: { has_two_layers shape ≡ false → sectors1 ≡ 0 },
@@ -121,8 +127,8 @@ fn layer_end(sectors: u32, tail: u32) -> u64
 }
 
 impl Layout {
-    #[tactic(auto, using(std::proofs::lemmas::Bool::Decides::nat_tests), unfolding(crate::specs::Lengths::first_fault))]
     /// A layout of these lengths, or the first rule that they break.
+    #[tactic(auto, using(std::proofs::lemmas::Bool::Decides::nat_tests), unfolding(crate::specs::Lengths::first_fault))]
     pub fn new(
         shape: Shape,
         sectors0: u32,
@@ -138,7 +144,7 @@ impl Layout {
         ensures initial { IfOk result (λ layout. layout.initial ≡ initial) }
         ensures tail { IfOk result (λ layout. layout.tail ≡ tail) }
     {
-        // The order is that in which rules are reported: the first broken one is named.
+        // The order is that in which rules are reported: the first broken one is named. `first_fault` has it too.
         let two_layers = shape.has_two_layers();
         if sectors0 == 0 {
             return Err(LayoutFault::EmptyLayer { layer: 0 });
@@ -152,6 +158,7 @@ impl Layout {
         if !two_layers && sectors1 != 0 {
             return Err(LayoutFault::SecondLayer { sectors: sectors1 });
         }
+        // Blocks are compared, since the padding of layer 1 has to fit before FD0000 too.
         if shape.is_opposite() && blocks_of(sectors0) < blocks_of(sectors1) {
             return Err(LayoutFault::LayerLonger { sectors: sectors1 });
         }
@@ -168,6 +175,7 @@ impl Layout {
                 end: end0,
             });
         }
+        // On a disk of one layer `sectors1` is 0, and this end is far below the limit.
         let end1 = layer_end(sectors1, tail);
         if end1 > LAST_END {
             return Err(LayoutFault::LayerTooLong {

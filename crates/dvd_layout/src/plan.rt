@@ -1,4 +1,6 @@
-//! The zone table of a layout (ECMA-267, section 5) and its plan, entry by entry.
+//! The zone table of a layout (ECMA-267, section 5) and its plan, entry by entry. The table lists the zones in the
+//! order of a stream, and the plan is the list of their blocks. No list of blocks is kept: an entry is found by the
+//! table.
 ghost use Rattle.std.specs.Prelude.{◌≡◌, ◌+◌, ◌*◌, ◌^◌, ◌<◌, ◌≤◌, ◌++◌, length, Some, slice_get};
 ghost use Rattle.arrayvec.specs.ArrayVec.{array_vec_len};
 ghost use Rattle.dvd_layout.specs.Lengths.{blocks_of, most_initial};
@@ -17,11 +19,12 @@ pub const DATA_FIRST: u32 = 0x03_0000;
 // blocks: at the complement of layer 0's last data sector.
 const SECOND_END: u32 = 0xFD_0000;
 
-// The most zones that a disk has: seven for each layer on the parallel track path.
+// The most zones that a disk has: seven for each layer on the parallel track path. A `room` clause below is this number
+// less those that the function adds.
 type ZoneTable = ArrayVec<Zone, 14>;
 
 impl Layout {
-    /// The number of ECC blocks in a stream of these zones.
+    /// The number of ECC blocks in a stream of these zones. 32 bits would do, and callers take it so; 64 are a choice.
     pub fn blocks(&self, zones: Zones) -> u64
         ensures { result ≡ length (plan_of self.now zones) }
     {
@@ -64,7 +67,8 @@ impl Layout {
         table
     }
 
-    // The Data Zones alone, in the order of the image.
+    // The Data Zones alone, in the order of the image. The definition picks them from all zones; here no others are
+    // made.
     fn data_zones(&self) -> ZoneTable
         ensures { result.items ≡ zone_table self.now Zones.DataOnly }
     {
@@ -76,7 +80,8 @@ impl Layout {
         table
     }
 
-    // Adds a layer that is read from the inside, with this Data Zone.
+    // Adds a layer that is read from the inside, with this Data Zone. The clause `numbers` leaves room in 32 bits for
+    // the sum in `behind`.
     fn push_layer(&self, table: &mut ZoneTable, image: Zone)
         requires room { array_vec_len table.old ≤ 7 }
         requires numbers { image.first + 16 * image.blocks < 2 ^ 32 }
@@ -89,7 +94,8 @@ impl Layout {
     }
 
     // Adds both layers of the opposite track path. Layer 1 is read inwards from where layer 0 ended: its middle zone
-    // comes before its data.
+    // comes before its data, with the numbers just below theirs, and it has no lead-in of its own. That zone begins at
+    // 800000 or above: layer 0 and its own middle zone end at 800000 at the latest, and these are the same lengths.
     fn push_opposite(&self, table: &mut ZoneTable)
         requires room { array_vec_len table.old ≤ 4 }
         requires shape { self.now.shape ≡ Shape.Opposite }
@@ -106,22 +112,27 @@ impl Layout {
         table.push(behind(&second, self.tail, Area::LeadOut));
     }
 
+    // The Data Zone of layer 0, with the image from its first sector on.
     fn first_data(&self) -> Zone
         ensures { result ≡ first_data self.now }
     {
         data_zone(DATA_FIRST, self.sectors0, 0, 0)
     }
 
+    // The Data Zone of layer 1, where the image goes on. It is of a disk with two layers: callers ask for the shape.
     fn second_data(&self) -> Zone
         ensures { result ≡ second_data self.now }
     {
         data_zone(self.second_first(), self.sectors1, 1, self.sectors0)
     }
 
-    /// The sector number where the data of layer 1 begin.
+    /// The sector number where the data of layer 1 begin. On a disk of one layer it means nothing. It is public for
+    /// dvd_control, which writes the last sector number of the data into the lead-in.
     pub fn second_first(&self) -> u32
         ensures { result ≡ second_first self.now }
     {
+        // The complement of a number is FFFFFF less it. The last data sector of layer 0 is 02FFFF plus its sectors in
+        // whole blocks, so the complement is FD0000 less these.
         if self.shape.is_opposite() {
             SECOND_END - 16 * blocks_of(self.sectors0)
         } else {
@@ -132,6 +143,7 @@ impl Layout {
 
 /// Block `k` of the lead-in of layer 0, with an Initial Zone of `initial` ECC blocks. After that zone come the
 /// reference code, a buffer zone, the control data and another buffer zone, 256 blocks in all.
+/// It is for `info`, which knows no layout yet. The plan of every layout begins with these blocks, by a law.
 pub fn lead_in_block(initial: u32, k: u32) -> BlockPlan
     requires initial { initial ≤ most_initial }
     requires block { k < initial + 256 }
@@ -143,7 +155,8 @@ pub fn lead_in_block(initial: u32, k: u32) -> BlockPlan
 }
 
 // Adds the zones of the lead-in of a layer. All sector numbers but the first are the standard's: a longer Initial Zone
-// begins earlier.
+// begins earlier. The zones are the Initial Zone, the Reference Code Zone of 2 blocks, Buffer Zone 1 of 30, the Control
+// Data Zone of 192 and Buffer Zone 2 of 32: the last ends where the data begin, at 030000.
 fn push_lead_in(table: &mut ZoneTable, initial: u32, layer: u8)
     requires room { array_vec_len table.old ≤ 9 }
     requires initial { initial ≤ most_initial }
@@ -189,7 +202,7 @@ fn zeros(first: u32, blocks: u32, area: Area, layer: u8) -> Zone
     }
 }
 
-// The zone of zeros after a Data Zone.
+// The zone of zeros after a Data Zone, on the same layer. Its area depends on the shape, so that callers give it.
 fn behind(image: &Zone, blocks: u32, area: Area) -> Zone
     requires { image.now.first + 16 * image.now.blocks < 2 ^ 32 }
     ensures { result ≡ behind image.now blocks area }

@@ -134,3 +134,21 @@ fn frames_have_ids_and_rules(rt: HostRuntime) {
         assert_eq!(rt; rule_of(content, f), rule);
     }
 }
+
+#[test]
+fn layouts_are_alike_in_all_numbers(rt: HostRuntime) {
+    let layouts = [
+        Layout::new(Parallel, 16, 16, 0, 1),
+        Layout::new(Opposite, 16, 16, 0, 1),
+        Layout::new(Parallel, 32, 16, 0, 1),
+        Layout::new(Parallel, 16, 17, 0, 1),
+        Layout::new(Parallel, 16, 16, 1, 1),
+        Layout::new(Parallel, 16, 16, 0, 2),
+    ];
+    for (i, layout) in layouts.iter().enumerate() {
+        assert!(rt; layout.is_ok());
+        for (j, other) in layouts.iter().enumerate() {
+            assert_eq!(rt; *layout == *other, i == j);
+        }
+    }
+}

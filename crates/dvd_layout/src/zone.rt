@@ -8,7 +8,7 @@ use crate::entry::{BlockPlan, Content};
 use dvd_frame::Area;
 
 /// A zone of a layer: its first sector number, its length in ECC blocks, and what it holds.
-/// The image sector of its content is the first of its first block.
+/// The image sector of its content is the first of its first block. A zone may have no blocks.
 #[derive(Clone, Copy, Debug, PartialEq, Eq)]
 pub struct Zone {
     /// The number of its first sector.
@@ -54,7 +54,8 @@ impl Zone {
     }
 }
 
-/// The number of blocks of these zones.
+/// The number of blocks of these zones. That they are few, and their sector numbers have 24 bits, leaves room for the
+/// sum. A table has at most fourteen, and each at most 2^20 blocks: any small number would do in place of 16.
 pub(crate) fn count_blocks(zones: &[Zone]) -> u64
     requires few { length zones.now < 16 }
     requires numbers { All IsInRange zones.now }
@@ -67,12 +68,14 @@ pub(crate) fn count_blocks(zones: &[Zone]) -> u64
     blocks
 }
 
-/// Block `k` of these zones, counted from the first block of the first zone.
+/// Block `k` of these zones, counted from the first block of the first zone. A zone without blocks is passed over. The
+/// clause `numbers` leaves room for the sector numbers of the entry.
 pub(crate) fn block_at(zones: &[Zone], k: u64) -> BlockPlan
     requires block { k < length (flat_map entries_of zones.now) }
     requires numbers { All IsInRange zones.now }
     ensures { slice_get (flat_map entries_of zones.now) k ≡ Some result }
 {
+    // What is left of `k` once the blocks of the zones before are taken off.
     let mut left = k;
     for zone in zones {
         if left < zone.blocks as u64 {

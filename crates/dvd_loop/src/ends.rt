@@ -22,9 +22,9 @@ pub enum LoopEnd {
     Short { unit: u32, bytes: u32 },
     /// One byte more came than was expected.
     Long,
-    /// The input was whole, and this number of units is bad.
+    /// The input was whole, and this number of units is bad, whether they are blocks or sectors.
     Damaged { blocks: u32 },
-    /// No unit answered.
+    /// No unit answered. The name is that of the one command that looks for one: `info`, for control data.
     NoControl,
     /// The marks of this unit break a rule of the listed form, at this byte of it.
     BadMarks { block: u32, at: u32 },
@@ -45,7 +45,8 @@ impl From<Failed> for LoopEnd {
     }
 }
 
-/// A failed write ends the loop as `WriteFault`. A fault of the report is named where it comes.
+/// A failed write ends the loop as `WriteFault`. A fault of the report is named where it comes, since a `WriteFault` of
+/// dvd_ports doesn't say which sink failed.
 impl From<WriteFault> for LoopEnd {
     ghost from_gives = { λ _ end. end ≡ write_fault };
 
@@ -74,7 +75,7 @@ impl UnitKind {
         matches!(self, UnitKind::Last)
     }
 
-    /// How many bad units it counts as: 1 or 0.
+    /// How many bad units it counts as: 1 or 0. So the loop adds it up without a case for each kind.
     pub fn bad(self) -> u32
         ensures { result ≡ bad_of self }
     {

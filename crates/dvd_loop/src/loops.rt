@@ -1,4 +1,6 @@
-//! The loop over units that all commands share, and the line that closes it.
+//! The loop over units that all commands share, and the line that closes it. In clauses an outcome is what was read,
+//! written and reported, and the end. `HasEnded` says that the streams have moved by one that the units allow, and that
+//! a fault is one failed call, the last of its stream.
 ghost use Rattle.std.specs.Prelude.{◌≡◌, ◌≢◌, ℕ, List, [], true, false};
 ghost use Rattle.dvd_ports.specs.Seen.{Seen};
 ghost use Rattle.dvd_loop.specs.Machine.{Closes, EndsAfterLast, IsOutcome};
@@ -9,7 +11,8 @@ use crate::{AfterLast, LoopEnd, UnitCommand};
 use dvd_ports::{Failed, Sink, Source, WriteFault, read_whole, write_whole};
 
 /// Opens a command, goes over its units, closes it, and checks what comes after the last unit. Nothing is tried again:
-/// a failed call, and a read that met the end of the input, is the last of its stream.
+/// a failed call, and a read that met the end of the input, is the last of its stream. The command closes before the
+/// end of the input is looked for, so that an input that is too long has its closing too.
 pub fn run_units<C: UnitCommand<S, K, E>, S: Source, K: Sink, E: Sink>(
     command: &mut C,
     src: &mut S,
@@ -26,9 +29,11 @@ pub fn run_units<C: UnitCommand<S, K, E>, S: Source, K: Sink, E: Sink>(
     if let Err(end) = command.open(out, report) {
         return end;
     }
+    // At most one a unit, and units are counted in 32 bits: the sum has room in them too.
     let mut bad = 0;
     for k in 0..command.count() {
         match command.process(k, src, out, report) {
+            // The unit that answers is what was looked for, so bad units before it don't count, and nothing is closed.
             Ok(kind) if kind.is_last() => return LoopEnd::Done,
             Ok(kind) => bad += kind.bad(),
             Err(end) => return end,
@@ -40,7 +45,8 @@ pub fn run_units<C: UnitCommand<S, K, E>, S: Source, K: Sink, E: Sink>(
     }
 }
 
-/// Likewise for a command that is handed over, where the caller doesn't need what it leaves.
+/// Likewise for a command that is handed over, where the caller doesn't need what it leaves. So it has no clause of the
+/// command after the loop, and callers have none to prove.
 pub fn run_owned<C: UnitCommand<S, K, E> + Drop, S: Source, K: Sink, E: Sink>(
     command: C,
     src: &mut S,
@@ -56,7 +62,9 @@ pub fn run_owned<C: UnitCommand<S, K, E> + Drop, S: Source, K: Sink, E: Sink>(
     run_units(&mut command, src, out, report)
 }
 
-// One byte is requested, since only a read can find the end of the input.
+// The end of a loop after its last unit. One byte is requested, since only a read can find the end of the input; a byte
+// that comes is lost, and the end is `Long`, whatever was bad. Output and report aren't touched. Where nothing is
+// requested `bad` doesn't count: the commands that end so, `info` and `exercise`, have no bad unit.
 fn expect_end<S: Source>(after_last: AfterLast, bad: u32, src: &mut S) -> LoopEnd
     ensures comes { (output report : Seen) → HaveReached (EndsAfterLast after_last bad)
         (streams (S.seen src.old) output report) (streams (S.seen src.new) output report) result }
@@ -76,7 +84,8 @@ fn expect_end<S: Source>(after_last: AfterLast, bad: u32, src: &mut S) -> LoopEn
 }
 
 /// Writes the closing line of a loop's end to the report. After a fault of the report nothing is tried. Where the line
-/// can't be written, the end is `ReportFault` in place of the other.
+/// can't be written, the end is `ReportFault` in place of the other. Programs call it after the loop, since the words
+/// of the line are theirs.
 pub fn close<E: Sink>(end: LoopEnd, line: &[u8], report: &mut E) -> LoopEnd
     ensures closes { (closing : HowItEnds → List ℕ) (source output : Seen) → closing end ≡ line.now → HaveReached (λ bytes. Closes closing end)
         (streams source output (E.seen report.old)) (streams source output (E.seen report.new)) result }

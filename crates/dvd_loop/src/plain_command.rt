@@ -39,7 +39,8 @@ pub trait PlainCommand<S: Source, K: Sink, E: Sink> {
             (streams (S.seen src.new) (K.seen out.new) (E.seen report.new)) result };
 }
 
-// As the loop sees it: it opens and closes with nothing, and one more byte is requested after its last unit.
+// A plain command as the loop sees it: it opens and closes with nothing, and one more byte is requested after its last
+// unit.
 // A type of its own: where a trait has parameters, an impl for all plain commands could clash with another.
 #[derive(Drop)]
 struct Plain<P> {

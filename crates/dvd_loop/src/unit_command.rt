@@ -1,4 +1,8 @@
-//! A command, seen from the loop.
+//! A command, seen from the loop. Its units are a definition, and the clauses of its calls say that it does what that
+//! allows. The calls have no bodies here: each command of the programs has its own.
+//! What a clause sees of a stream is its `Seen`: bytes and counts of faults. Where a call isn't handed the source, a
+//! clause is of any, which stays as it is. The clauses `causes` say that no call of a stream failed, or that the end is
+//! that of the one that did, the last of its stream.
 ghost use Rattle.std.specs.Prelude.{◌≡◌, ◌<◌, ℕ, List, length, Ok, IfErr};
 ghost use Rattle.dvd_ports.specs.Seen.{Seen};
 ghost use Rattle.dvd_loop.specs.Machine.{Units};
@@ -21,10 +25,11 @@ pub trait UnitCommand<S: Source, K: Sink, E: Sink> {
     /// Its units.
     ghost units: { Key → Units };
 
-    /// It is ready for the unit after these.
+    /// It is ready for the unit after these: what its buffers and counts are after units with these bytes.
     ghost ready: { Self → List (List ℕ) → Type 0 };
 
-    /// What it leaves where the loop ends in this way.
+    /// What it leaves where the loop ends in this way, for a caller that looks at its buffers after the run. Most leave
+    /// nothing that is said.
     ghost left: { Self → HowItEnds → Type 0 };
 
     /// How many units there are.
@@ -44,7 +49,8 @@ pub trait UnitCommand<S: Source, K: Sink, E: Sink> {
             (streams source (K.seen out.old) (E.seen report.old)) (streams source (K.seen out.new) (E.seen report.new)) }
         ensures left { IfErr result (left self.now) };
 
-    /// Reads unit `k`, does its steps in order, and answers the kind of the unit.
+    /// Reads unit `k`, does its steps in order, and answers the kind of the unit. It alone may change the command,
+    /// whose buffers are used again, and it alone is handed the source.
     fn process(&mut self, k: u32, src: &mut S, out: &mut K, report: &mut E) -> Processed
         requires unit { k < (units (key self.old)).count }
         requires ready { IsReadyFor k (ready self.old) }

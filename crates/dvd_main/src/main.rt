@@ -1,5 +1,6 @@
 //! The program dvdecc: it makes the real arguments and streams, and ends with the status of the run. All else is done
-//! by `run`, whose contract says what it does.
+//! by `run`, whose contract says what it does. Nothing here has a contract, since of real streams and arguments nothing
+//! is known: it is proved only that the program is safe and ends.
 #![tactic(auto)]
 
 use dvd_par::OpenGate;
@@ -10,6 +11,7 @@ use std::io::{self, ErrorKind};
 use std::process::ExitCode;
 use std::rt::Env;
 
+// `OpenGate` lets every worker pass: a gate is for tests, and nothing that comes out depends on it.
 fn main(rt: HostRuntime) -> ExitCode {
     let status = match words(&rt) {
         Ok(words) => {
@@ -32,7 +34,9 @@ fn main(rt: HostRuntime) -> ExitCode {
     ExitCode::from(status.number())
 }
 
-// The arguments after the program's own name; none where one of them isn't UTF-8, which makes a usage error.
+// The arguments after the program's own name; none where one of them isn't UTF-8. No arguments are a usage error, so
+// that `run` then writes the line `usage` and gives its status. The error's kind is asked for memory alone. Of the
+// runtime it asks for arguments and memory alone.
 fn words<R: Env + AllocGlobal>(rt: &R) -> Result<Vec<String>, NoMemory> {
     match env::args(rt) {
         Ok(args) => args.skip(1).collect(rt.alloc()).map_err(|_| NoMemory),

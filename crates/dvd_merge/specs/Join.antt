@@ -1,4 +1,5 @@
--- Ours: several captures of one ECC block (ECMA-267, 18) joined place by place. A table has what is known of each place:
+-- Ours: several captures of one ECC block (ECMA-267, 18) joined place by place. A table has what is known of each
+-- place:
 -- 208 rows of 182 places.
 use Rattle.std.specs.Prelude.{ℕ, ◌==◌, Bool, true, false, if◌then◌else◌, List, [], map, replicate, slice_index_or}
 use Rattle.std.specs.List.{fold}
@@ -10,7 +11,8 @@ use Rattle.dvd_merge.specs.declared.place.Place.TheVariants.{Unseen, Value, Conf
 abbrev pub Table : Type 0
 Table = List (List Place)
 
--- Ours: what two captures know of a place. One that hasn't seen it changes nothing, and two values make a conflict, which stays.
+-- Ours: what two captures know of a place. One that hasn't seen it changes nothing, and two values make a conflict,
+-- which stays.
 unfoldable pub join : Place → Place → Place
 join Unseen other = other
 join (Value a) Unseen = Value a

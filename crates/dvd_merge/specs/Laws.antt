@@ -14,8 +14,8 @@ use Rattle.dvd_merge.specs.MarkedText.{marked_text}
 abbrev pub CaptureOrderDoesNotCount : Type 0
 CaptureOrderDoesNotCount = (a b : List Table) → ((table : Table) → Contains a table ↔ Contains b table) → joined a ≡ joined b
 
--- Where all captures but one have the byte of the block at each place that they have seen, each row of the join costs at
--- most what it costs in the one.
+-- Where all captures but one have the byte of the block at each place that they have seen, each row of the join costs
+-- at most what it costs in the one.
 abbrev pub CostDoesNotGrow : Type 0
 CostDoesNotGrow =
     (block rows : List (List ℕ)) (marks : List (List Bool)) (before after : List Table)

@@ -1,5 +1,5 @@
--- Ours: a table as a captured block in the marked form: its 208 recorded rows (ECMA-267, 19) in order, each of 182 bytes
--- and 23 bytes of mark bits.
+-- Ours: a table as a captured block in the marked form: its 208 recorded rows (ECMA-267, 19) in order, each of 182
+-- bytes and 23 bytes of mark bits.
 use Rattle.std.specs.Prelude.{ℕ, ◌+◌, ◌*◌, Bool, false, if◌then◌else◌, List, [], ◌∷◌, ◌++◌, map, take, drop}
 use Rattle.std.specs.List.{fold, range_with_len}
 use Rattle.coding.specs.Recording.{recording}

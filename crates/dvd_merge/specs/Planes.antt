@@ -1,4 +1,5 @@
--- What is known of the places of a block as two planes of bytes: the value of each place, and the code of what is known of it.
+-- What is known of the places of a block as two planes of bytes: the value of each place, and the code of what is known
+-- of it.
 use Rattle.std.specs.Prelude.{ℕ, ◌==◌, if◌then◌else◌, List}
 use Rattle.std.specs.Simd.Lanes.{zip2}
 use Rattle.dvd_merge.specs.Join.{Table}

@@ -1,5 +1,7 @@
-//! 32 places of a row at once, a lane for each. Lanes have no branches: both cases are computed for all, and `pick`
-//! chooses.
+//! 32 places of a row at once, a lane for each: its value is in one vector, and the code of what is known of it in
+//! another. Lanes have no branches: both cases are computed for all, and `pick` chooses. All is inlined, so that
+//! vectors needn't pass through memory. In clauses `at_place` is what the value and the code in a lane say of its
+//! place, and `joined_at` that with a byte, unless it is marked.
 ghost use Rattle.std.specs.Prelude.{◌==◌, if◌then◌else◌, slice_index};
 ghost use Rattle.dvd_merge.specs.Inner.Rows.{HasLanes, HasPlaces, at_place, joined_at};
 ghost use Rattle.dvd_merge.specs.Join.{byte_of, join};
@@ -8,7 +10,8 @@ ghost use Rattle.dvd_merge.specs.declared.place.Place.TheVariants.{Value};
 use crate::place::{CONFLICT, SEEN, UNSEEN};
 use std::simd::prelude::*;
 
-/// Each place joined with its byte, or with nothing where its mark isn't 0: the values and the codes of the places.
+/// Each place joined with its byte, or with nothing where its mark isn't 0: the new values and the new codes of the
+/// places. They are results and nothing is written here.
 #[inline(always)]
 pub(crate) fn joined(values: u8x32, codes: u8x32, bytes: u8x32, marks: u8x32) -> (u8x32, u8x32)
     ensures { HasPlaces result.0 result.1 (λ k. joined_at values codes bytes marks k) }
@@ -27,7 +30,7 @@ fn joined_bytes(values: u8x32, codes: u8x32, bytes: u8x32) -> (u8x32, u8x32)
     ensures { HasPlaces result.0 result.1 (λ k. join (at_place values codes k) (Value (slice_index bytes k))) }
 {
     // A place that was unseen has the byte now, so the last comparison finds it equal. A conflict stays one there, even
-    // where its old value is the byte.
+    // where its old value is the byte: it then keeps its code, which is no longer that of an unseen place.
     let unseen = u8x32::splat(UNSEEN);
     let new_values = pick(codes, unseen, bytes, values);
     let seen_codes = pick(codes, unseen, u8x32::splat(SEEN), codes);
@@ -35,7 +38,7 @@ fn joined_bytes(values: u8x32, codes: u8x32, bytes: u8x32) -> (u8x32, u8x32)
     (new_values, new_codes)
 }
 
-/// The byte of each place, 0 where none is known.
+/// The byte of each place, 0 where none is known: the value of an unseen place or of a conflict isn't given.
 #[inline(always)]
 pub(crate) fn known_bytes(values: u8x32, codes: u8x32) -> u8x32
     ensures { HasLanes result (λ k. byte_of (at_place values codes k)) }

@@ -19,7 +19,7 @@ use std::alloc::Global;
 /// apart, so that 32 of each fill a vector.
 #[derive(Drop)]
 pub struct Merge {
-    /// The byte of each place. Where no one byte is known it doesn't count.
+    /// The byte of each place. Where no one byte is known it doesn't count, and may be any.
     values: Vec<[u8; 182]>,
     /// The code of what is known of each place.
     codes: Vec<[u8; 182]>,
@@ -45,11 +45,13 @@ impl Merge {
     pub fn clear(&mut self)
         ensures { table_of self.new ≡ unseen }
     {
+        // The codes alone would do: the value of an unseen place doesn't count.
         self.values.fill([0; 182]);
         self.codes.fill([UNSEEN; 182]);
     }
 
-    /// Joins a byte into row `i` at place `j`. All else stays. One byte by itself: whole rows go by `take_row`.
+    /// Joins a byte into row `i` at place `j`. All else stays. One byte by itself, by the plain `join` of two places,
+    /// as tests do: programs join whole rows, by `take_row`.
     pub fn see(&mut self, i: usize, j: usize, byte: u8)
         requires row { i < 208 }
         requires place { j < 182 }
@@ -61,7 +63,8 @@ impl Merge {
         self.codes[i][j] = place.code();
     }
 
-    /// Joins each place of the received block: its byte, or nothing where it is marked.
+    /// Joins each place of the received block: its byte, or nothing where it is marked. The answers that a `Work` may
+    /// have don't count, and it stays.
     pub fn take(&mut self, work: &Work)
         requires { HasBlock (stage_of work.now) }
         ensures { table_of self.new ≡ join_tables (table_of self.old) (seen_table (rows_of work.now) (marks_of_work work.now)) }
@@ -71,7 +74,7 @@ impl Merge {
         }
     }
 
-    /// What is known of the place in row `i` at `j`.
+    /// What is known of the place in row `i` at `j`. Tests look at it; programs write the whole block.
     pub fn place(&self, i: usize, j: usize) -> Place
         requires row { i < 208 }
         requires place { j < 182 }
@@ -91,7 +94,8 @@ impl Merge {
         write_whole(out, &text)
     }
 
-    /// Joins each place of a received row into row `i`: its byte, or nothing where it is marked. All else stays.
+    /// Joins each place of a received row into row `i`: its byte, or nothing where it is marked. All else stays. It is
+    /// public for dvd_assemble, which has thirteen rows of a block at a time.
     pub fn take_row(&mut self, i: usize, bytes: &[u8; 182], marks: &RowMarks)
         requires { i < 208 }
         ensures { table_of self.new ≡ slice_set (table_of self.old) i

@@ -14,7 +14,8 @@ pub enum Place {
     Conflict,
 }
 
-/// The codes of what is known of a place, where a byte of its own holds it beside the value.
+/// The codes of what is known of a place, where a byte of its own holds it beside the value. They are never written
+/// out, so any three numbers would do.
 pub(crate) const UNSEEN: u8 = 0;
 
 pub(crate) const SEEN: u8 = 1;
@@ -22,7 +23,8 @@ pub(crate) const SEEN: u8 = 1;
 pub(crate) const CONFLICT: u8 = 2;
 
 impl Place {
-    // The place of these two bytes: its value, which counts where it is seen alone, and its code.
+    // The place of these two bytes: its value, which counts where it is seen alone, and its code. Any code but the
+    // first two is a conflict, so that each byte is a code.
     pub(crate) fn new(value: u8, code: u8) -> Place
         ensures { result ≡ place_from value code }
     {
@@ -33,7 +35,8 @@ impl Place {
         }
     }
 
-    // What both know. Neither the order of the two nor their repetition counts.
+    // What both know. Neither the order of the two nor their repetition counts. `lanes` does the same for 32 places.
+    // `tactic` lets the prover unfold the definition, which has the same cases.
     #[tactic(auto, unfolding(crate::specs::Join::join))]
     pub(crate) fn join(self, other: Place) -> Place
         ensures { result ≡ join self other }

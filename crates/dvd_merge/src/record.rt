@@ -33,7 +33,7 @@ pub(crate) fn fill_text(values: &[[u8; 182]], codes: &[[u8; 182]], text: &mut [u
     }
 }
 
-// Writes a row in the marked form.
+// Writes a row in the marked form, all 205 bytes of it.
 fn fill_record(values: &[u8; 182], codes: &[u8; 182], row: &mut [u8; RECORD])
     ensures { row.new ≡ marked_row (row_of values.now codes.now) }
 {
@@ -42,7 +42,7 @@ fn fill_record(values: &[u8; 182], codes: &[u8; 182], row: &mut [u8; RECORD])
     fill_bits(codes, bits);
 }
 
-// The byte of each place.
+// The byte of each place. The last of six groups of 32 begins within the one before, and writes the same bytes there.
 fn fill_bytes(values: &[u8; 182], codes: &[u8; 182], bytes: &mut [u8])
     requires { length bytes.old ≡ 182 }
     ensures { bytes.new ≡ map byte_of (row_of values.now codes.now) }
@@ -66,7 +66,8 @@ fn fill_bits(codes: &[u8; 182], bits: &mut [u8])
     bits[22] = marks_byte(u8x8::from_slice(&codes[174..])) << 2;
 }
 
-// The mark bits of eight places, the first the highest.
+// The mark bits of eight places, the first the highest, as the marked form has them. It is inlined, so that the eight
+// codes needn't pass through memory.
 #[inline(always)]
 fn marks_byte(codes: u8x8) -> u8
     ensures { result ≡ number_of_marks (map is_unknown codes) }

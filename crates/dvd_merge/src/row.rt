@@ -1,4 +1,5 @@
-//! A row of a block, joined 32 places at a time: a vector has 32 bytes, and each of its lanes is one place.
+//! A row of a block, joined 32 places at a time: a vector has 32 bytes, and each of its lanes is one place. What is
+//! done for each group of 32 is inlined, so that vectors needn't pass through memory.
 ghost use Rattle.std.specs.Prelude.{◌≡◌, ℕ, ◌+◌, ◌*◌, ◌<◌, ◌≤◌};
 ghost use Rattle.dvd_capture.specs.Parts.{marks_of_row};
 ghost use Rattle.dvd_merge.specs.Inner.Rows.{AreJoined, at_place, joined_at};
@@ -26,7 +27,8 @@ pub(crate) fn take_row(
     }
 }
 
-// Joins each place, or nothing where the byte of its mark isn't 0.
+// Joins each place, or nothing where the byte of its mark isn't 0. The marks are spread over 184 bytes, eight for each
+// of the 23 mark bytes: the last two are spare.
 #[inline(always)]
 fn join_row(values: &mut [u8; 182], codes: &mut [u8; 182], bytes: &[u8; 182], marks: &[u8; SPREAD])
     ensures { (k : ℕ) → k < 182 → at_place values.new codes.new k ≡ joined_at values.old codes.old bytes.now marks.now k }
@@ -37,7 +39,7 @@ fn join_row(values: &mut [u8; 182], codes: &mut [u8; 182], bytes: &[u8; 182], ma
     }
 }
 
-// Joins the 32 places from `at` on.
+// Joins the 32 places from `at` on. All others stay.
 #[inline(always)]
 fn join_at(
     values: &mut [u8; 182],
@@ -60,7 +62,8 @@ fn join_at(
 }
 
 /// Where a group of 32 places begins, of the six that have all places of a row. 182 is no multiple of 32. So that the
-/// last group is full too, it begins within the one before it.
+/// last group is full too, it begins within the one before it. The clauses show that a group leaves no place out after
+/// the one before it, and that the last ends with the row.
 #[inline(always)]
 pub(crate) fn start_of(group: usize) -> usize
     requires { group < 6 }

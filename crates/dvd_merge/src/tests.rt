@@ -1,4 +1,5 @@
-//! Worked values from outside the program.
+//! Worked values from outside the program. Rows and places go through `min`, since the calls require them to be of a
+//! block and no contract says it of the cases.
 ghost use Rattle.std.specs.Prelude.{◌≡◌, ◌<◌, OnOk};
 ghost use Rattle.dvd_capture.specs.Works.{stage_of};
 ghost use Rattle.dvd_capture.specs.Rule.{HasBlock};
@@ -130,7 +131,8 @@ fn join_all(alloc: Global, merge: &mut Merge) -> Result<(), Fail> {
     Ok(())
 }
 
-// Where single bytes are joined to that.
+// What is known there where single bytes are then joined: a place that wasn't seen has its byte, one that was is in
+// conflict, and neighbours stay.
 static SEEN: [Known; 4] = [
     (12, 8, Place::Value(6)),
     (0, 0, Place::Conflict),
@@ -155,8 +157,9 @@ fn captures_are_joined_place_by_place(rt: HostRuntime) -> Result<(), Fail> {
 
 const MARKED: usize = 42_640;
 
-// The bytes of the captures joined that aren't 0: row 0 begins with 01 and has a mark at 181, the last before the two
-// spare bits; row 12 comes after row 192.
+// The bytes of the captures joined that aren't 0, by their offsets. A recorded row has 205 bytes: 182, and then mark
+// bits, the first place the highest bit. Row 0 begins with 01 and has a mark at 181, the last before the two spare
+// bits. Then row 192 has one at 3, row 12, which comes after it, one at 8, and row 207, the last, one at 181.
 static WRITTEN: [(usize, u8); 5] = [
     (0, 1),
     (204, 0b100),
@@ -165,7 +168,7 @@ static WRITTEN: [(usize, u8); 5] = [
     (207 * 205 + 204, 0b100),
 ];
 
-// An error where these bytes are others.
+// An error where these bytes aren't those: a list, so that each other byte has to be 0.
 fn are_written(alloc: Global, bytes: &[u8]) -> Result<(), Fail> {
     let mut written = vec![in alloc; 0; MARKED]?;
     for (at, byte) in &WRITTEN {
@@ -179,7 +182,7 @@ fn are_written(alloc: Global, bytes: &[u8]) -> Result<(), Fail> {
     Ok(())
 }
 
-// Reads these bytes.
+// Reads these bytes as a captured block in the marked form.
 fn read(alloc: Global, bytes: &[u8], work: &mut Work) -> Result<(), Fail>
     ensures { OnOk result (stage_of work.new ≡ Fetched) }
 {
@@ -236,6 +239,7 @@ fn a_join_is_written_as_a_marked_block(rt: HostRuntime) -> Result<(), Fail> {
 fn a_failed_write_leaves_a_prefix(rt: HostRuntime) -> Result<(), Fail> {
     let alloc = rt.alloc();
     let merge = Merge::new(alloc)?;
+    // Of calls of 1,000 bytes the third fails.
     let mut out = MemSink::new(alloc, MARKED, 1000, vec![in alloc; 2; 1]?)?;
     assert!(rt; merge.write_marked(&mut out).is_err());
     assert!(rt; out.held().len() == 2000);

@@ -6,7 +6,8 @@ use dvd_capture::Stage;
 use std::sync::atomic::{AtomicU64, Ordering};
 use std::test::Fail;
 
-// A gate that counts and lets nobody wait.
+// A gate that counts and lets nobody wait. The counts are atomic, since several threads ask it at once. Sixteen digits
+// of 64 bits are one for each piece, as at most sixteen workers are allowed.
 #[derive(Drop)]
 struct Counting {
     digits: AtomicU64, // how often each piece was asked for: a hexadecimal digit each, that of piece 0 the lowest
@@ -58,6 +59,8 @@ const ASKED: [(u8, u64); 5] = [
 #[test]
 fn each_piece_of_both_passes_is_asked_for_once_a_pass(rt: HostRuntime) -> Result<(), Fail> {
     for (workers, digits) in ASKED {
+        // Eight rows are bad, from row 3 on, thirteen apart. Any others would do, up to sixteen: if more failed, there
+        // would be no second pass.
         let mut work = received(rt.alloc(), 3, 13, 8, 0)?;
         let gate = Counting::new();
         if work.stage() == Stage::Fetched {
@@ -82,6 +85,8 @@ fn each_piece_of_the_parity_is_asked_for_once_a_pass(rt: HostRuntime) -> Result<
 #[test]
 fn a_piece_is_asked_for_before_its_first_item_is_done(rt: HostRuntime) -> Result<(), Fail> {
     for (workers, _) in ASKED {
+        // Each item notes whether its piece hadn't been asked for when it was done. All begin as late, so that one that
+        // nobody does is found too.
         let mut is_late = [true; 182];
         let gate = Counting::new();
         let size = piece_size(182, workers);

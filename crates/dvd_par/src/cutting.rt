@@ -8,7 +8,7 @@ use crate::gate::Gate;
 use std::thread::{Threads, for_each_chunk_mut};
 
 /// How many of `total` rows or columns a piece has: the least number with which so many workers do them all. It is
-/// rounded up, so that the last piece may be shorter and a worker may have none.
+/// rounded up, so that the last piece may be shorter and a worker may have none. Tests ask it too.
 pub fn piece_size(total: usize, workers: u8) -> usize
     requires workers { 1 ≤ workers }
     requires some { 1 ≤ total }
@@ -18,8 +18,9 @@ pub fn piece_size(total: usize, workers: u8) -> usize
 }
 
 /// Does `work` on each piece of the items, with the place where the piece begins. The last piece is done on this
-/// thread, and each other in a thread of its own where one can be made. The gate is asked once for each piece, by the
-/// thread that then does it.
+/// thread, and each other in a thread of its own where one can be made, or else on this one. The gate is asked once for
+/// each piece, by the thread that then does it. `work` has to accept pieces of any size, so that no caller needs to
+/// know this one. It is shared, so it can change its piece and nothing else.
 pub fn for_each_piece<R: Threads + Sync, G: Gate, T: Send, F: Fn(usize, &mut [T]) + Sync>(
     rt: &R,
     workers: u8,
@@ -33,7 +34,8 @@ pub fn for_each_piece<R: Threads + Sync, G: Gate, T: Send, F: Fn(usize, &mut [T]
     ensures { IsDoneInPieces F.Fn work.now workers items.old items.new }
 {
     let size = piece_size(items.len(), workers);
-    // The gate sees the number of a piece, and the work its first item.
+    // The gate sees the number of a piece, and the work the place where it begins. All pieces but the last have the
+    // same size, so the division gives the number.
     let asked = |start: usize, piece: &mut [T]|
         requires { (0 < size) × AcceptsAt F.Fn work.now start piece.now }
         ensures { ChangesAt F.Fn work.entry.now start piece.entry.now piece.exit.now }
@@ -41,7 +43,8 @@ pub fn for_each_piece<R: Threads + Sync, G: Gate, T: Send, F: Fn(usize, &mut [T]
     for_each_chunk_mut(rt, items, size, &asked);
 }
 
-// Asks the gate for a piece, and then does the work on it.
+// Asks the gate for a piece, and then does the work on it: in this order, since a gate may let the worker wait. What
+// becomes of the piece is the work's doing alone.
 fn ask_and_do<G: Gate, T, F: Fn(usize, &mut [T])>(
     gate: &G,
     number: usize,

@@ -4,11 +4,11 @@
 /// wait, and changes nothing that the work reads. No contract can say that two threads ran, so a test has to see it:
 /// its gate lets two pieces wait for each other.
 pub trait Gate: Sync {
-    /// Piece `piece` of a pass begins.
+    /// Piece `piece` of a pass begins. It has no clause: all that it can do is let its caller wait.
     fn pass(&self, piece: usize);
 }
 
-/// A gate where nobody waits.
+/// A gate where nobody waits: the one that programs have.
 #[derive(Clone, Copy, Debug, Drop)]
 pub struct OpenGate;
 

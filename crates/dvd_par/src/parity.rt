@@ -19,7 +19,7 @@ pub fn add_parity_par<R: Threads + Sync, G: Gate>(rt: &R, workers: u8, gate: &G,
     ensures cells { cells_all block.new.cells ≡ replicate 182 (replicate 16 0) }
 {
     if workers == 1 {
-        // Both passes at once.
+        // One call does both passes, so the gate is asked for each of them here.
         gate.pass(0);
         gate.pass(0);
         block.add_parity();
@@ -43,7 +43,8 @@ fn inner_parity<R: Threads + Sync, G: Gate>(rt: &R, workers: u8, gate: &G, lines
     row_pieces(rt, workers, gate, upper);
 }
 
-// Sets the inner parity of these rows, piece by piece. A piece goes by vectors, in groups of 32 from its first row.
+// Sets the inner parity of these rows, piece by piece. A piece goes by vectors, in groups of 32 from its first row. A
+// row's parity depends on the row alone, so where the piece begins doesn't matter.
 fn row_pieces<R: Threads + Sync, G: Gate>(rt: &R, workers: u8, gate: &G, rows: &mut [[u8; 182]])
     requires workers { 1 ≤ workers }
     requires rows { length rows.old ≡ 192 }
@@ -58,8 +59,8 @@ fn row_pieces<R: Threads + Sync, G: Gate>(rt: &R, workers: u8, gate: &G, rows: &
     for_each_piece(rt, workers, gate, rows, &encode);
 }
 
-// Sets the outer parity of each column, in a cell of its own. A column's sixteen bytes are in sixteen rows, and a piece
-// has to be one slice.
+// Sets the outer parity of each column, in a cell of its own: sixteen bytes side by side. In the block they are in
+// sixteen rows, and a piece has to be one slice. `place_parity` then copies the cells into rows 192 to 207.
 fn outer_parity<R: Threads + Sync, G: Gate>(
     rt: &R,
     workers: u8,

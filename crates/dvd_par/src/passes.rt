@@ -21,7 +21,8 @@ use std::thread::Threads;
 
 /// Decodes a captured block as `dvd_read::two_pass` does, with so many workers. A worker has the rows of a piece in the
 /// first pass, and the columns of a piece in the second. The second begins where the first has ended. One worker works
-/// on this thread.
+/// on this thread. Sixteen workers are the most that the option allows; no private function needs that limit. Only
+/// tests call it: commands read blocks as entries of a plan, by `read_block_par`.
 pub fn two_pass_par<R: Threads + Sync, G: Gate>(
     rt: &R,
     workers: u8,
@@ -38,7 +39,9 @@ pub fn two_pass_par<R: Threads + Sync, G: Gate>(
 }
 
 /// Answers the rows and columns of a captured block. Answers whether the columns are known to correct no row that was
-/// answered. `false` says nothing: then all rows are tested.
+/// answered. `false` says nothing: then all rows are tested. With more than sixteen failed rows the columns stay as
+/// they were, and `end_passes` doesn't look at them. `read_block_par` calls it too: for the frames it has to know
+/// whether the rows are kept.
 pub(crate) fn answer_block<R: Threads + Sync, G: Gate>(
     rt: &R,
     workers: u8,
@@ -55,7 +58,8 @@ pub(crate) fn answer_block<R: Threads + Sync, G: Gate>(
     ensures marks { work.new.marks ≡ work.old.marks }
     ensures sectors { work.new.sectors ≡ work.old.sectors }
 {
-    // Answers of an earlier reading don't count from here on, since they are overwritten.
+    // Answers of an earlier reading don't count from here on, since they are overwritten. The stage stays Fetched:
+    // `end_passes` sets what was found.
     work.set_stage(Stage::Fetched);
     let answers = work.answers.rows_mut();
     row_pass(rt, workers, gate, &work.received, &work.marks, answers);
@@ -109,7 +113,8 @@ fn column_pass<R: Threads + Sync, G: Gate>(
     if !are_few(&failed) {
         return false;
     }
-    // One worker sees all columns, and so knows by itself whether they keep the rows.
+    // One worker sees all columns, and so knows by itself whether they keep the rows. The gate is asked here, as
+    // `for_each_piece` asks it.
     if workers == 1 {
         gate.pass(0);
         return answer_columns(&Po::new(), answers, &failed, 0, columns);
@@ -118,7 +123,8 @@ fn column_pass<R: Threads + Sync, G: Gate>(
     are_kept(answers, &failed, columns)
 }
 
-// The columns, piece by piece.
+// The columns, piece by piece. What is answered of a single piece is dropped: the workers share the closure, which
+// can't note it, and the columns are compared with the rows at the end.
 fn column_pieces<R: Threads + Sync, G: Gate>(
     rt: &R,
     workers: u8,

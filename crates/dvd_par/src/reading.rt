@@ -14,7 +14,9 @@ use dvd_read::parts::{FrameSource, end_passes, sectors_of_block};
 use dvd_read::{Cause, Fixed};
 use std::thread::Threads;
 
-/// Reads a captured block as `dvd_read::read_block` does, with so many workers in both passes.
+/// Reads a captured block as `dvd_read::read_block` does, with so many workers in both passes: with the same clauses,
+/// and by the same calls after the passes. `tactic` lets the prover unfold the cause of a block: that of two passes, or
+/// else that of its frames.
 #[tactic(auto, unfolding(dvd_decoding::specs::Reading::block_cause))]
 pub fn read_block_par<R: Threads + Sync, G: Gate>(
     rt: &R,

@@ -1,4 +1,6 @@
-//! The answers of several workers beside those of the calls that have none.
+//! The answers of several workers beside those of the calls that have none. Helpers without a contract test what a call
+//! requires of them, a stage or a row of the block: where that doesn't hold, they do nothing or answer `None`.
+//! Numbers wrap where nothing bounds them.
 use crate::{OpenGate, add_parity_par, read_block_par, two_pass_par};
 use dvd_block::Block;
 use dvd_capture::{Stage, Work};
@@ -19,7 +21,8 @@ const FIRST: BlockPlan = BlockPlan {
     content: Content::Image(0),
 };
 
-// The first data block without its parity.
+// The first data block without its parity. Its Main Data are any bytes that differ from place to place and from frame
+// to frame.
 pub(crate) fn frames(alloc: Global) -> Result<Block, Fail> {
     let mut block = Block::new(alloc)?;
     let mut main = [0; 2048];
@@ -106,6 +109,8 @@ fn are_same(one: &Work, other: &Work) -> bool {
 
 #[test]
 fn blocks_are_decoded_as_by_one_worker(rt: HostRuntime) -> Result<(), Fail> {
+    // From which row on, every how many rows, bad rows and lost rows: five within the bound, and three
+    // beyond it. Twice the bad rows plus the lost ones is 0, 16, 16, 16 and 2, and then 17, 18 and 34.
     let blocks: [(usize, usize, usize, usize); 8] = [
         (0, 1, 0, 0),
         (3, 13, 8, 0),

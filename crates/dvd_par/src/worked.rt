@@ -8,14 +8,18 @@ use std::alloc::Global;
 use std::test::Fail;
 use std::thread::Threads;
 
+// One, the most, and a number that divides neither 208 rows nor 182 columns.
 static WORKERS: [u8; 3] = [1, 3, 16];
 
-// The row codeword of the generator polynomial: it is at the last eleven places.
+// The row codeword of the generator polynomial of PI: it is at the last eleven places, 171 to 181, and zeros before.
+// Moved to the left by some places it is a codeword too.
 const GENERATOR: [u8; 11] = [
     0x01, 0xD8, 0xC2, 0x9F, 0x6F, 0xC7, 0x5E, 0x5F, 0x71, 0x9D, 0xC1,
 ];
 
-// Factors of it for rows 191 to 198: the last places of these rows are the first coefficients of a codeword of columns.
+// Factors of it for rows 191 to 198: C1 times the first eight of the 17 coefficients of PO's generator polynomial. The
+// codeword's first byte is 01, so each row has its factor at place 171: column 171 begins there as a codeword of PO
+// whose 17 bytes are in rows 191 to 207. The ninth is C1 times 08.
 static FACTORS: [u8; 8] = [0xC1, 0x91, 0xA4, 0x49, 0x39, 0x29, 0x53, 0x76];
 
 // A received block of zeros.
@@ -25,6 +29,8 @@ fn zero_block(alloc: Global) -> Result<Work, Fail> {
     Ok(work)
 }
 
+// Sets a received byte and its mark. It does nothing where `damage` would ask for more than is known here: a stage, or
+// a row and a place of the block.
 fn put(work: &mut Work, i: usize, j: usize, byte: u8, mark: bool) {
     if work.stage() == Stage::Fetched && i < 208 && j < 182 {
         work.damage(i, j, byte, mark);
@@ -47,7 +53,7 @@ fn lose_row(work: &mut Work, i: usize) {
     }
 }
 
-// So many rows are lost, every twelfth.
+// So many rows are lost, 17 at most, every twelfth: one in each frame, and one of outer parity as the last.
 fn lost_rows(alloc: Global, count: usize) -> Result<Work, Fail> {
     let mut work = zero_block(alloc)?;
     for t in 0..17usize {
@@ -58,7 +64,8 @@ fn lost_rows(alloc: Global, count: usize) -> Result<Work, Fail> {
     Ok(work)
 }
 
-// Eight rows are those of another codeword.
+// Eight rows are those of another codeword. So columns 171 to 181 have eight errors each, the most that sixteen parity
+// bytes correct. The rows are twenty apart; any eight would do.
 fn eight_rows(alloc: Global) -> Result<Work, Fail> {
     let mut work = zero_block(alloc)?;
     for t in 0..8usize {
@@ -67,7 +74,11 @@ fn eight_rows(alloc: Global) -> Result<Work, Fail> {
     Ok(work)
 }
 
-// Every row is a codeword, and the columns make one of them no codeword.
+// Every row is a codeword, and the columns make one of them no codeword. Column 171 has nine of the seventeen bytes of
+// a column codeword, and is corrected to that by eight more, in rows 200 to 207, which are received as zeros. Each
+// other column has eight bytes at most that aren't 0, and is near zeros. So row 191 has one byte that isn't 0.
+// The ninth byte is the last of row 199, 08 times C1. So that row begins at place 161 and ends in column 171: it
+// adds no ninth byte to columns 172 to 181.
 fn wrong_row(alloc: Global) -> Result<Work, Fail> {
     let mut work = zero_block(alloc)?;
     for t in 0..8usize {
@@ -94,6 +105,7 @@ enum Received {
     Wrong,
 }
 
+// The block that was received so.
 fn work_of(alloc: Global, what: &Received) -> Result<Work, Fail> {
     let mut work = match what {
         Received::Lost(count) => lost_rows(alloc, *count)?,
@@ -106,6 +118,9 @@ fn work_of(alloc: Global, what: &Received) -> Result<Work, Fail> {
     Ok(work)
 }
 
+// Sixteen lost rows are filled with the zeros that they have, so no byte differs. Eight rows of eleven bytes that
+// aren't 0 are 88 bytes. With a lost row each of their columns has eight errors and an erasure, more than sixteen
+// parity bytes correct; column 171 is the first of them.
 static ANSWERS: [(Received, Result<Fixed, Cause>); 5] = [
     (
         Received::Lost(16),

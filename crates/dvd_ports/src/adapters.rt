@@ -1,6 +1,8 @@
 //! Sources and sinks over std's readers and writers. Each counts its own errors, and a source also how often its input
 //! ended. The counts have 64 bits and stay at their greatest number. They begin at 0 and never fall, so that a caller
-//! sees by them whether a call failed.
+//! sees by them whether a call failed. `stopped` says that the last call failed or met the end. No code reads it:
+//! contracts do, through `seen`. They ask that the call that failed was the last, which the counts don't show, since
+//! calls that move bytes leave these as they are.
 ghost use Rattle.std.specs.Prelude.{◌≡◌, ◌<◌, length, take, None, IfOk, OnErr, is_ok, false, if◌then◌else◌};
 ghost use Rattle.std.specs.Io.KnownBytes.{Appends};
 ghost use Rattle.dvd_ports.specs.Calls.{IsRead, IsWrite};
@@ -13,7 +15,8 @@ use std::io::{Read, Write};
 #[cfg(test)]
 mod tests;
 
-/// A source over a reader. Its bytes are known where std knows those of the reader.
+/// A source over a reader, for real streams. Its bytes are known where std knows those of the reader. An error's kind
+/// is dropped, and nobody asks for it: each is a fault, an interrupted call too, since nothing is tried again.
 #[derive(Drop)]
 pub struct StdSource<R: Read> {
     reader: R,
@@ -105,6 +108,7 @@ impl<W: Write> Sink for StdSink<W> {
 
     ghost seen = { λ s. record { bytes = None; faults = s.faults; ends = 0; stopped = s.stopped } };
 
+    // For the prover, two lemmas: a write takes a prefix of the piece, whether it fails or not, and a flush no more.
     #[tactic(auto, using(crate::proofs::KnownLemmas::write_front, crate::proofs::KnownLemmas::front_kept))]
     fn write(&mut self, buf: &[u8]) -> Result<usize, Failed>
         ensures counts { (⟦<StdSink<W> as Sink>⟧.seen self.new).faults
@@ -137,6 +141,7 @@ impl<W: Write> Sink for StdSink<W> {
                     Err(Failed)
                 }
             },
+            // An error, or no byte of a piece that has some.
             _ => {
                 self.faults = self.faults.saturating_add(1);
                 Err(Failed)

@@ -10,12 +10,13 @@ use thiserror::Error;
 #[error("the call failed")]
 pub struct Failed;
 
-/// A piece couldn't be written whole.
+/// A piece couldn't be written whole. It is another error than `Failed`, so that a loop can end by it in another way
+/// than by a failed read.
 #[derive(Clone, Copy, Debug, PartialEq, Eq, Drop, Error)]
 #[error("a write failed")]
 pub struct WriteFault;
 
-/// There was no memory for an object.
+/// There was no memory for an object. It is here since the crates that allocate share it.
 #[derive(Clone, Copy, Debug, PartialEq, Eq, Drop, Error)]
 #[error("no memory")]
 pub struct NoMemory;
@@ -23,7 +24,7 @@ pub struct NoMemory;
 /// Where bytes come from.
 pub trait Source {
     /// The bytes that are left, where they are known; the counts of faults and of ends; and whether the last call
-    /// failed or met the end.
+    /// failed or met the end. By the last a contract asks that nothing is tried again: no other call may come after it.
     ghost seen: { Self → Seen };
 
     /// Moves bytes to the beginning of `buf` and returns their number. Into a buffer with room, 0 is the end of the
@@ -39,7 +40,8 @@ pub trait Sink {
     /// The bytes accepted so far, where they are known; the count of faults; and whether the last call failed.
     ghost seen: { Self → Seen };
 
-    /// Accepts bytes from the beginning of `buf` and returns their number: at least one, if there is one.
+    /// Accepts bytes from the beginning of `buf` and returns their number: at least one, if there is one, so that a
+    /// loop over a piece ends. With an empty buffer nothing changes.
     fn write(&mut self, buf: &[u8]) -> Result<usize, Failed>
         ensures call { IsWrite (seen self.old) (seen self.new) result buf.now }
         ensures empty { length buf.now ≡ 0 → (result ≡ Ok 0) × (self.new ≡ self.old) };

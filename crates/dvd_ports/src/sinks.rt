@@ -1,4 +1,6 @@
-//! Sinks over memory. A call fails only where its number is listed, or where the sink is full.
+//! Sinks over memory, and one that keeps nothing. A call fails only where its number is listed, or where the sink is
+//! full. What a contract sees of a sink in memory is a value, its `Model`, of which clauses name the fields. Contracts
+//! ask by `stopped` that a call that failed was the last; no later call reads it.
 ghost use Rattle.std.specs.Prelude.{◌≡◌, ◌<◌, ◌≤◌, ◌↔◌, ◌-◌, ◌⊎◌, ◌++◌, [], length, take, min, Some, None, Contains, IfOk, IsErr, OnErr, true, false};
 ghost use Rattle.dvd_ports.specs.Calls.{IsWrite};
 ghost use Rattle.dvd_ports.specs.Causes.{next_count};
@@ -85,6 +87,7 @@ impl Sink for MemSink {
         if buf.is_empty() {
             return Ok(0);
         }
+        // The number of this call, before it is counted. A call that fails accepts nothing.
         let call = self.calls;
         self.calls = call.saturating_add(1);
         self.stopped = self.fails.contains(&call) || self.held.len() == self.room;
@@ -101,12 +104,13 @@ impl Sink for MemSink {
     }
 }
 
-/// A sink that accepts everything and never fails; its bytes aren't known.
+/// A sink that accepts everything and never fails; its bytes aren't known. It is lent as the report of commands that
+/// write none.
 #[derive(Clone, Copy, Debug, PartialEq, Eq)]
 pub struct NullSink;
 
 impl NullSink {
-    /// The sink that keeps nothing.
+    /// The sink that keeps nothing. A call, so that a clause says what is seen of it.
     pub fn new() -> NullSink
         ensures { ⟦<NullSink as Sink>⟧.seen result ≡ record { bytes = None; faults = 0; ends = 0; stopped = false } }
     {

@@ -1,5 +1,7 @@
 //! Sources over memory. Their bytes are known, and a call fails only where its number is listed. They are part of the
-//! library, since the crates that depend on it test their faults with them.
+//! library, since the crates that depend on it test their faults with them. What a contract sees of each is a value,
+//! its `Model`: clauses name its fields, so that a test knows each count. Counts stay at their greatest number, of 64
+//! bits. Contracts ask by `stopped` that a call that failed, or met the end, was the last.
 ghost use Rattle.std.specs.Prelude.{◌≡◌, ◌<◌, ◌≤◌, ◌↔◌, ◌++◌, length, take, drop, min, Some, Contains, IfOk, IsErr, OnErr, OnOk, true, false};
 ghost use Rattle.dvd_ports.specs.Calls.{IsRead};
 ghost use Rattle.dvd_ports.specs.Causes.{next_count};
@@ -9,6 +11,7 @@ use crate::{Failed, Source};
 use std::marker::Model;
 
 /// A source over borrowed bytes. Each call gives the bytes that are left, as far as the buffer has room; none fails.
+/// It isn't for tests alone: a command that reads nothing is lent an empty one, and a caller's buffer is read by one.
 #[derive(Drop)]
 pub struct SliceSource<'a> {
     rest: &'a [u8],
@@ -54,6 +57,7 @@ impl<'a> Source for SliceSource<'a> {
         ensures call { IsRead (slice_seen self.old) (slice_seen self.new) result buf.new }
         ensures empty { length buf.old ≡ 0 → (result ≡ Ok 0) × (self.new ≡ self.old) }
     {
+        // Not counted: it isn't the end of the input.
         if buf.is_empty() {
             return Ok(0);
         }
@@ -139,8 +143,11 @@ impl Source for MemSource {
         if buf.is_empty() {
             return Ok(0);
         }
+        // The number of this call, before it is counted. A call that fails comes before the end is looked for, and
+        // leaves all bytes for the next.
         let call = self.calls;
         self.calls = call.saturating_add(1);
+        // Taken back below where bytes come.
         self.stopped = true;
         if self.fails.contains(&call) {
             self.faults = self.faults.saturating_add(1);

@@ -1,9 +1,11 @@
-//! Each object once, through its trait.
+//! Each object once, through its trait. In `reads` and `writes` a call with an empty buffer comes first, which may
+//! change nothing.
 use super::*;
 use std::alloc::Global;
 use std::test::Fail;
 
-// Bytes, step, calls that fail, and what a buffer of five gets at each of the next calls: a count, or 9 for `Failed`.
+// Bytes, step, calls that fail, and what a buffer of five gets at each of the next calls: a count, or 9 for `Failed`,
+// which is no count of a buffer of five.
 type Reads = (&'static [u8], usize, &'static [u64], [usize; 4]);
 
 static READS: [Reads; 4] = [

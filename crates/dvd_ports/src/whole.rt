@@ -1,5 +1,6 @@
 //! Whole pieces: a write of all bytes, and a read that fills a buffer. A call may move fewer bytes than it is asked to.
-//! Who uses these two needn't know how many calls a piece took.
+//! Who uses these two needn't know how many calls a piece took. `tactic` is for the prover alone: it names lemmas by
+//! which what several calls moved is one piece.
 ghost use Rattle.std.specs.Prelude.{◌<◌, length, take, IfOk, OnErr};
 ghost use Rattle.std.specs.Io.{ReadsAtMost};
 ghost use Rattle.std.specs.Io.KnownBytes.{Consumes, IsAtEnd};
@@ -14,6 +15,7 @@ use crate::{Failed, Sink, Source, WriteFault};
 pub fn write_whole<K: Sink>(out: &mut K, buf: &[u8]) -> Result<(), WriteFault>
     ensures { IsWritten buf.now (K.seen out.old) (K.seen out.new) result }
 {
+    // Each call accepts a byte at least or fails, so the loop ends.
     let mut written = 0;
     while written < buf.len() {
         match out.write(&buf[written..]) {

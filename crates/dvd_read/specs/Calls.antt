@@ -15,7 +15,8 @@ use Rattle.dvd_decoding.specs.Reading.{block_cause, block_in, IsReadAs}
 use Rattle.dvd_decoding.specs.declared.cause.Cause.{Cause}
 use Rattle.dvd_read.specs.declared.fixed.Fixed.{Fixed}
 
--- A captured block was decoded by two passes: its columns are a block, or there is a first cause, and the stage says which.
+-- A captured block was decoded by two passes: its columns are a block, or there is a first cause, and the stage says
+-- which.
 pub record IsDecoded (old new : Work) (answer : Result Fixed Cause) : Type 0 where
   pub refused : IfErr answer (λ cause. two_pass_cause (answers_of (rows_of old) (marks_of_work old)) ≡ Some cause)
   pub fixed : OnOk answer (two_pass_cause (answers_of (rows_of old) (marks_of_work old)) ≡ None)
@@ -29,8 +30,8 @@ pub record IsDecoded (old new : Work) (answer : Result Fixed Cause) : Type 0 whe
   pub marks : new.marks ≡ old.marks
   pub sectors : new.sectors ≡ old.sectors
 
--- The frames of a block that two passes fixed were checked as those of an entry: their Main Data are the sectors, or these are
--- zeros and there is a first cause.
+-- The frames of a block that two passes fixed were checked as those of an entry: their Main Data are the sectors, or
+-- these are zeros and there is a first cause.
 pub record AreFramesChecked (old new : Work) (plan : BlockPlan) (answer : Result (Unit {0}) Cause) : Type 0 where
   pub refused : IfErr answer (λ cause. frames_cause (block_of old) plan ≡ Some cause)
   pub right : OnOk answer (frames_cause (block_of old) plan ≡ None)

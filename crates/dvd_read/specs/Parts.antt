@@ -1,5 +1,5 @@
--- Ours: what the buffers of a captured block hold between the passes, and what a piece of them holds whose rows or columns
--- begin at one of the block's. All rows, and all columns, are the piece that begins at the first.
+-- Ours: what the buffers of a captured block hold between the passes, and what a piece of them holds whose rows or
+-- columns begin at one of the block's. All rows, and all columns, are the piece that begins at the first.
 use Rattle.std.specs.Prelude.{◌≡◌, ◌+◌, ◌<◌, ℕ, Bool, true, List, length, map, slice_index_or, Some, None, is_some, if◌then◌else◌}
 use Rattle.std.specs.declared.option.Option.{Option}
 use Rattle.rs_decode.specs.declared.errors.Fix.{Fix}

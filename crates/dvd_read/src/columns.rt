@@ -1,5 +1,11 @@
 //! The second pass: each column of the rows' answers is answered by the codeword near it, the failed rows being marked.
 //! The failed rows are the same in all columns, so what is computed of their places serves all.
+//! The values of a column are those of its polynomial at alpha^0 to alpha^15: its syndromes, all 0 for a codeword
+//! alone. They are found for 32 columns at once, in a vector for each power; column `n` of the 32 has lane `n` of each.
+//! Patches are the bytes to add in the failed rows, found for 32 columns at once: each is tested before it counts.
+//! In clauses, of the columns from `start` on: `AreOwnFrom`, they have the bytes of the rows' answers, and `AreCopied`,
+//! so far those of the rows before one; `AreColumnsFrom`, they are answered; `AreKeptFrom`, they have the bytes of the
+//! rows that didn't fail. `Completes` says that patches not noted as wrong make a column a codeword.
 ghost use Rattle.std.specs.Prelude.{◌≡◌, ℕ, ◌+◌, ◌<◌, ◌≤◌, List, IsTrue, true, false, length, map, slice_index, slice_index_or, position, not, MatchOption};
 ghost use Rattle.coding.specs.Field.{alpha, power};
 ghost use Rattle.coding.specs.Words.{IsCodeword, value};
@@ -23,8 +29,8 @@ use rs_decode::{Erasures, Patches, decode_from};
 use rs_lanes::{any_of, column_values, load, load_transposed, store, transposed_values};
 use std::simd::prelude::*;
 
-/// Answers the columns from `start` on, one for each place of a piece of the columns. Answers whether they correct no row
-/// that was answered.
+/// Answers the columns from `start` on, one for each place of a piece of the columns. Answers whether they correct no
+/// row that was answered.
 pub fn answer_columns(
     code: &Po,
     answers: &[AnswerRow],
@@ -39,6 +45,8 @@ pub fn answer_columns(
     ensures kept { IsTrue result → AreKeptFrom answers.now start piece.new }
 {
     copy_columns(answers, start, piece);
+    // Callers ask `are_few` before. The test is here again because the clauses hold of any number of failed rows: with
+    // more than sixteen no column has a codeword near it.
     match Erasures::shared(failed, usize::from(MOST_FAILED)) {
         Some(erasures) => answer_copied(code, answers, &erasures, start, piece),
         None => {
@@ -89,7 +97,8 @@ fn copy_few(answers: &[AnswerRow], start: usize, piece: &mut [ColumnAnswer])
     for group in 0..6 {
         copy_rows(answers, 32 * group, start, piece);
     }
-    // 208 is no multiple of 32: the last 32 rows repeat sixteen of the group before.
+    // 208 is no multiple of 32: the last 32 rows repeat sixteen of the group before. The groups come in rising order,
+    // since `copy_rows` ensures only that the rows before its own stay.
     copy_rows(answers, 176, start, piece);
 }
 
@@ -103,7 +112,8 @@ fn copy_rows(answers: &[AnswerRow], top: usize, start: usize, piece: &mut [Colum
     ensures wide { (j : ℕ) (default : ColumnAnswer) → j < length piece.new → length (slice_index_or piece.new j default).bytes ≡ 208 }
     ensures copied { AreCopied answers.now start piece.old top → AreCopied answers.now start piece.new (top + 32) }
 {
-    // Sixteen places are turned even where fewer follow.
+    // Sixteen places are transposed even where fewer follow: the last sixteen begin at place 166. So column `start` is
+    // vector `start - at` of them.
     let at = start.min(166);
     let transposed = load_transposed(answers, top, at);
     for (j, column) in piece.iter_mut().enumerate() {
@@ -111,7 +121,7 @@ fn copy_rows(answers: &[AnswerRow], top: usize, start: usize, piece: &mut [Colum
     }
 }
 
-// Writes 32 bytes of a column. Also ensures its length.
+// Writes 32 bytes of a column. Also ensures its length, which the type of the array has and a slice wouldn't.
 fn put_lanes(lanes: u8x32, at: usize, word: &mut [u8; 208])
     requires { at + 32 ≤ 208 }
     ensures size { length word.new ≡ 208 }
@@ -130,7 +140,8 @@ fn leave_unanswered(piece: &mut [ColumnAnswer])
     }
 }
 
-// Answers columns whose bytes are copied, with the failed rows marked. Answers whether they correct no row that was answered.
+// Answers columns whose bytes are copied, with the failed rows marked. Answers whether they correct no row that was
+// answered.
 fn answer_copied(
     code: &Po,
     answers: &[AnswerRow],
@@ -150,6 +161,7 @@ fn answer_copied(
     for group in 0..piece.len().div_ceil(32) {
         let at = 32 * group;
         let end = piece.len().min(at + 32);
+        // Called before the `&&`, since each group has to be answered.
         let group_is_kept = answer_group(code, answers, erasures, start + at, &mut piece[at..end]);
         are_kept = are_kept && group_is_kept;
     }
@@ -157,8 +169,8 @@ fn answer_copied(
 }
 
 // Answers at most 32 of these columns, by their values. Answers whether they correct no row that was answered.
-// The values that test a column are its syndromes too, so that a column isn't read once more to be decoded. Where rows failed,
-// all columns need bytes in these rows: they are found for 32 at once.
+// The values that test a column are its syndromes too, so that a column isn't read once more to be decoded. Where rows
+// failed, all columns need bytes in these rows: they are found for 32 at once.
 fn answer_group(
     code: &Po,
     answers: &[AnswerRow],
@@ -176,7 +188,8 @@ fn answer_group(
     ensures columns { AreColumnsFrom (map answer_word answers.now) start piece.new }
     ensures kept { IsTrue result → AreKeptFrom answers.now start piece.new }
 {
-    // The values of 32 columns are found even where fewer follow.
+    // The values of 32 columns are found even where fewer follow: the last 32 begin at column 150. They are those of
+    // the rows' answers, where the bytes of 32 columns lie side by side, and so of the columns as they were copied.
     let left = start.min(150);
     let values = column_values(answers, left);
     let wrong = any_of(&values);
@@ -184,7 +197,7 @@ fn answer_group(
     let mut are_kept = true;
     for (k, column) in piece.iter_mut().enumerate() {
         let n = start - left + k;
-        // What is proposed is tested. Where it isn't right, the column is decoded by itself.
+        // What is proposed is tested. Where it isn't right, the column is as it was, and is decoded by itself.
         let is_kept = fill_column(erasures, &patches, n, wrong[n], column)
             || decode_column(code, erasures, lane_of(&values, n), column);
         are_kept = are_kept && is_kept;
@@ -205,9 +218,9 @@ fn patches_for(erasures: &Erasures<208>, values: &[u8x32; 16], wrong: u8x32) -> 
     }
 }
 
-// Answers one column as it is, or with the bytes that lane `n` has for it in the failed rows; `wrong` is zero where it is
-// a codeword. A codeword is its own answer, also where rows failed: each costs one, and at most sixteen did. Answers whether
-// the column could be answered so, and nothing is corrected in rows that aren't marked.
+// Answers one column as it is, or with the bytes that lane `n` has for it in the failed rows; `wrong` is zero where it
+// is a codeword. A codeword is its own answer, also where rows failed: each costs one, and at most sixteen did. Answers
+// whether the column could be answered so, and nothing is corrected in rows that aren't marked.
 fn fill_column(
     erasures: &Erasures<208>,
     patches: &Patches,
@@ -232,7 +245,8 @@ fn fill_column(
 }
 
 // Answers one column by its syndromes, in its place. Answers whether nothing is corrected in rows that aren't marked. A
-// codeword that differs in a row that was answered is an answer too, but then the rows have to be tested.
+// codeword that differs in a row that was answered is an answer too, but then the rows have to be tested. `errors`
+// counts such places alone, and not the failed rows. A column without an answer is as it was.
 fn decode_column(
     code: &Po,
     erasures: &Erasures<208>,
@@ -255,7 +269,8 @@ fn decode_column(
     }
 }
 
-/// The first column that has no answer. A refusal names it, so the order is that of the columns.
+/// The first column that has no answer. A refusal names it, so the order is that of the columns. Its number has 16
+/// bits, as causes have it.
 pub(crate) fn first_missing(columns: &[ColumnAnswer]) -> Option<u16>
     requires { length columns.now ≡ 182 }
     ensures { result ≡ position (λ column. not column.answered) columns.now }
@@ -269,7 +284,8 @@ pub(crate) fn first_missing(columns: &[ColumnAnswer]) -> Option<u16>
 }
 
 /// The first row of the columns' words that isn't a codeword. The groups are in rising order, and rows that two of them
-/// share were right in the first.
+/// share were right in the first. Each column has a word here, since callers ask `first_missing` before; of one without
+/// an answer it would be the bytes that were copied.
 pub(crate) fn first_wrong(columns: &[ColumnAnswer]) -> Option<u16>
     requires { length columns.now ≡ 182 }
     ensures { result ≡ position (λ row. not (vanishes_at_all 10 row)) (from_columns (words_of_columns columns.now)) }
@@ -284,7 +300,7 @@ pub(crate) fn first_wrong(columns: &[ColumnAnswer]) -> Option<u16>
     None
 }
 
-// The first of the 32 rows from `top` on that isn't a codeword.
+// The first of the 32 rows from `top` on that isn't a codeword: 32 are tested at once, by their values.
 fn first_wrong_from(columns: &[ColumnAnswer], top: usize) -> Option<u16>
     requires columns { length columns.now ≡ 182 }
     requires top { top + 32 ≤ 208 }
@@ -314,7 +330,7 @@ fn transposed_rows(columns: &[ColumnAnswer], top: usize) -> [u8x32; 182]
     transposed
 }
 
-// The 32 bytes of a column from place `at` on.
+// The 32 bytes of a column from place `at` on. Its type has the 208 bytes that `load` has to be shown of a slice.
 fn lanes_at(word: &[u8; 208], at: usize) -> u8x32
     requires { at + 32 ≤ 208 }
     ensures { (n : ℕ) → n < 32 → slice_index result n ≡ slice_index word.now (at + n) }
@@ -322,7 +338,7 @@ fn lanes_at(word: &[u8; 208], at: usize) -> u8x32
     load(word, at)
 }
 
-/// Writes row `i` of the columns' words.
+/// Writes row `i` of the columns' words, a byte of each column.
 pub(crate) fn read_row(columns: &[ColumnAnswer], i: usize, row: &mut [u8; 182])
     requires columns { length columns.now ≡ 182 }
     requires row { i < 208 }

@@ -1,4 +1,5 @@
-//! The checks of a block's sixteen data frames, and their Main Data.
+//! The checks of a block's sixteen data frames, and their Main Data. `HasNumbers` says of an entry of a plan that the
+//! numbers of its sixteen sectors have 24 bits, and that its layer is 0 or 1: every plan's entries have that.
 ghost use Rattle.std.specs.Prelude.{◌≡◌, ℕ, ◌+◌, ◌*◌, ◌<◌, ◌≤◌, ◌++◌, None, Some, length, take, IsTrue, IfErr, OnOk};
 ghost use Rattle.coding.specs.Product.{line};
 ghost use Rattle.dvd_capture.specs.Parts.{received_rows, sector_bytes};
@@ -18,10 +19,11 @@ use dvd_decoding::Cause;
 use dvd_frame::{FrameCause, Scrambler, read_frame_into};
 use dvd_layout::{BlockPlan, id_of, rule_of};
 
-/// Checks the sixteen data frames of a block that two passes fixed, as those of an entry of a plan, and sets the sectors to
-/// their unscrambled Main Data. After a cause, that of the first frame that has one, the sectors are zeros.
+/// Checks the sixteen data frames of a block that two passes fixed, as those of an entry of a plan, and sets the
+/// sectors to their unscrambled Main Data. After a cause, that of the first frame that has one, the sectors are zeros.
 /// So nothing of an earlier block is left in them.
-/// The stage and all else stay.
+/// The stage and all else stay. It is for who has called `two_pass`, and may not know which rows the columns keep:
+/// tests, so far.
 pub fn sectors(work: &mut Work, plan: &BlockPlan) -> Result<(), Cause>
     requires stage { stage_of work.old ≡ Stage.Fixed }
     requires numbers { HasNumbers plan.now }
@@ -31,8 +33,8 @@ pub fn sectors(work: &mut Work, plan: &BlockPlan) -> Result<(), Cause>
     sectors_of_block(work, plan, FrameSource::Columns)
 }
 
-/// Where the rows of a block that two passes fixed are read. They are whole in the received rows and in the rows' answers, and
-/// spread over all columns. The columns have a byte of a row each, so whole rows are read where there are any.
+/// Where the rows of a block that two passes fixed are read. They are whole in the received rows and in the rows'
+/// answers, and spread over all columns: each column has one byte of a row. So whole rows are read where there are any.
 #[derive(Clone, Copy, Debug, PartialEq, Eq)]
 pub enum FrameSource {
     /// In what was received, where the block is that.
@@ -44,7 +46,8 @@ pub enum FrameSource {
 }
 
 impl FrameSource {
-    /// Where the rows of a block are read of which so many bytes were fixed, and whose answered rows are kept or may not be.
+    /// Where the rows of a block are read of which so many bytes were fixed, and whose answered rows are kept or may
+    /// not be. A block of which no byte was fixed is what was received.
     pub fn of(bytes: u32, are_kept: bool) -> FrameSource
         ensures received { result ≡ FrameSource.Received → bytes ≡ 0 }
         ensures answers { result ≡ FrameSource.Answers → IsTrue are_kept }
@@ -59,7 +62,8 @@ impl FrameSource {
     }
 }
 
-/// Checks the frames as `sectors` does, of rows that are read from this source.
+/// Checks the frames as `sectors` does, of rows that are read from this source. The source changes no answer, only
+/// time. It is for callers that answered the passes and know whether the rows are kept: `read_block`, and dvd_par.
 pub fn sectors_of_block(work: &mut Work, plan: &BlockPlan, source: FrameSource) -> Result<(), Cause>
     requires stage { stage_of work.old ≡ Stage.Fixed }
     requires numbers { HasNumbers plan.now }
@@ -80,7 +84,9 @@ pub fn sectors_of_block(work: &mut Work, plan: &BlockPlan, source: FrameSource) 
     }
 }
 
-// Reads the frames of the block of these columns into the sectors, up to the first that has a cause.
+// Reads the frames of the block of these columns into the sectors, up to the first that has a cause. After a cause the
+// sectors mean nothing, so no clause is of them: the caller sets them to zeros. Buffers are lent one by one, since the
+// others are read while the sectors are written.
 fn read_frames(
     received: &Received,
     answers: &[AnswerRow],
@@ -98,12 +104,13 @@ fn read_frames(
     ensures right { OnOk result (frames_cause (from_columns (words_of_columns columns.now)) plan.now ≡ None) }
     ensures main { OnOk result (sector_bytes sectors.new ≡ main_data (from_columns (words_of_columns columns.now)) plan.now) }
 {
-    // The frames of a block have one preset.
+    // The frames of a block have one preset, so that the scrambling bytes are made once and serve all sixteen.
     let mut scrambler = Scrambler::new();
     let mut frame = [0; 2064];
     for f in 0..16usize {
         get_frame(received, answers, columns, source, f, &mut frame);
-        // An ID is compared without b29, so that this needn't be known here.
+        // An ID is compared without b29, which a disk with two layers sets: `false` will do for both. `rule` says which
+        // bytes of the frame are scrambled.
         let want = id_of(plan, false, f);
         let rule = rule_of(plan.content, f);
         let main = sectors.sector_mut(f);
@@ -114,8 +121,9 @@ fn read_frames(
     Ok(())
 }
 
-/// Reads data frame `f` of a block as that of an entry of a plan: checks it, and writes its unscrambled Main Data. After a
-/// cause these mean nothing.
+/// Reads data frame `f` of a block as that of an entry of a plan: checks it, and writes its unscrambled Main Data.
+/// After a cause these mean nothing. It is for blocks that aren't in a `Work`, as dvd_deep has them. The scrambling
+/// bytes are made for this frame alone, where `read_frames` makes them once for sixteen.
 pub fn read_frame_at(
     rows: &[[u8; 182]; 208],
     plan: &BlockPlan,
@@ -211,7 +219,8 @@ fn put_kept_row(
     }
 }
 
-// Writes frame `f` of these rows. Also ensures that they have 182 bytes.
+// Writes frame `f` of these rows. Also ensures that they have 182 bytes, by which two rows that differ nowhere are
+// equal.
 fn copy_received(rows: &[[u8; 182]], f: usize, frame: &mut [u8; 2064])
     requires rows { length rows.now ≡ 208 }
     requires frame { f < 16 }
@@ -236,7 +245,9 @@ pub(crate) fn copy_frame(columns: &[ColumnAnswer], f: usize, frame: &mut [u8; 20
     }
 }
 
-/// Writes the first 172 bytes of a row after what comes before them.
+/// Writes the first 172 bytes of a row after what comes before them: the last ten are inner parity. A frame is written
+/// from its first row on, since only the bytes before `at` are ensured to stay. `width` is for callers' proofs, which
+/// don't know the length of a row in a list.
 pub(crate) fn put_front(frame: &mut [u8; 2064], at: usize, row: &[u8; 182])
     requires { at + 172 ≤ 2064 }
     ensures front { take (at + 172) frame.new ≡ take at frame.old ++ take 172 row.now }

@@ -1,5 +1,8 @@
-//! Whether the columns keep the rows that were answered: compared with the rows' answers by vectors, as those who answered
-//! pieces of the columns apart from each other can't know.
+//! Whether the columns keep the rows that were answered, by comparing both. Workers who answered pieces of the columns
+//! apart from each other can't know it. A row that is kept is a codeword already, and needs no test.
+//! 32 rows and sixteen columns are compared at once, in vectors with a lane for each row. In clauses `IsRowKept` says
+//! that the columns from one place to the one before another have the bytes of a row's answer. A vector is a list
+//! there, whose length its type doesn't say: so clauses say that there are 32 lanes.
 ghost use Rattle.std.specs.Prelude.{◌≡◌, ◌↔◌, ℕ, ◌+◌, ◌<◌, ◌≤◌, IsTrue, false, length, map, slice_index, slice_index_or};
 ghost use Rattle.coding.specs.TwoPass.{failed_of};
 ghost use Rattle.dvd_capture.specs.declared.parts.ColumnAnswer.{ColumnAnswer};
@@ -11,6 +14,7 @@ use rs_lanes::{any_of, load, load_transposed};
 use std::simd::prelude::*;
 
 /// Whether the columns of a block have, in each row that didn't fail, the bytes of the rows' answers.
+/// Only passes with several workers ask this. One worker alone knows it of `answer_columns`.
 pub fn are_kept(answers: &[AnswerRow], failed: &[bool; 208], columns: &[ColumnAnswer]) -> bool
     requires rows { length answers.now ≡ 208 }
     requires marks { failed.now ≡ failed_of (map answer_word answers.now) }
@@ -18,7 +22,7 @@ pub fn are_kept(answers: &[AnswerRow], failed: &[bool; 208], columns: &[ColumnAn
     ensures { IsTrue result ↔ AreKeptFrom answers.now 0 columns.now }
 {
     for group in 0..7usize {
-        // The last 32 rows begin at row 176.
+        // 208 is no multiple of 32: the last 32 rows begin at row 176, and some are compared twice.
         if !are_rows_kept(answers, failed, columns, (32 * group).min(176)) {
             return false;
         }
@@ -58,13 +62,14 @@ fn rows_changed(answers: &[AnswerRow], columns: &[ColumnAnswer], top: usize) -> 
 {
     let mut tiles = [u8x32::splat(0); 12];
     for tile in 0..12usize {
-        // The last sixteen columns begin at column 166.
+        // 182 is no multiple of sixteen: the last sixteen columns begin at column 166.
         tiles[tile] = tile_changed(answers, columns, top, (16 * tile).min(166));
     }
     any_of(&tiles)
 }
 
-// The same of the sixteen columns from `at` on.
+// The same of the sixteen columns from `at` on: as many as are transposed at once. Rows have their bytes side by side,
+// and columns theirs, so that one of both has to be transposed to be compared.
 fn tile_changed(answers: &[AnswerRow], columns: &[ColumnAnswer], top: usize, at: usize) -> u8x32
     requires rows { length answers.now ≡ 208 }
     requires columns { length columns.now ≡ 182 }

@@ -9,7 +9,7 @@ use arrayvec::ArrayVec;
 use std::simd::prelude::*;
 
 /// Lane `n` of each vector: where these are the values of a word, its syndromes. It is a list, as a decoder takes the
-/// syndromes of a code of any length.
+/// syndromes of a code of any length, with room for 32 of them: no code here has more parity bytes.
 pub(crate) fn lane_of<const R: usize>(vectors: &[u8x32; R], n: usize) -> ArrayVec<u8, 32>
     requires few { R ≤ 32 }
     requires lane { n < 32 }
@@ -23,7 +23,8 @@ pub(crate) fn lane_of<const R: usize>(vectors: &[u8x32; R], n: usize) -> ArrayVe
     lanes
 }
 
-// Lane `n` of a vector, which is read where it is: a copy of all lanes would be made for one of them.
+// Lane `n` of a vector, which is read where it is: a copy of all lanes would be made for one of them. It is inlined,
+// so that no call is made for one byte.
 #[inline(always)]
 fn lane(vector: &u8x32, n: usize) -> u8
     requires { n < 32 }

@@ -1,6 +1,6 @@
-//! The passes over a captured block piece by piece, for whoever works on several pieces of its rows or of its columns at
-//! once. `two_pass` and `read_block` are made of the same calls, with one piece each. One frame is salvaged by itself, for
-//! whoever asks which of the sixteen are.
+//! The passes over a captured block piece by piece, for whoever works on several pieces of its rows or of its columns
+//! at once. `two_pass` and `read_block` are made of the same calls, with one piece each. One frame is salvaged by
+//! itself, for whoever asks which of the sixteen are.
 pub use crate::columns::answer_columns;
 pub use crate::frames::{FrameSource, sectors_of_block};
 pub use crate::kept::are_kept;

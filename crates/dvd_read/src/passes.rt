@@ -1,4 +1,8 @@
-//! Both passes over a captured block, and the test of the rows.
+//! Both passes over a captured block, and the test of the rows. A row or column is answered where a codeword is near
+//! it; a row that isn't has failed. The columns keep the rows where they change no byte of a row that was answered.
+//! A `Work` has received rows, marks, answers of rows and columns, and a stage: at Fetched no answer counts, at Refused
+//! the rows' answers do, and at Fixed the columns are the block as well. In clauses `AreKeptFrom` says of columns, and
+//! `AreRowsKept` of a block, that the answered rows are kept.
 ghost use Rattle.std.specs.Prelude.{◌≡◌, ℕ, ◌<◌, ◌≤◌, Bool, List, None, Some, true, false, is_some, length, map, not, position, slice_index_or, IsTrue, IfErr, IfOk, OnErr, OnOk};
 ghost use Rattle.coding.specs.Distance.{distance};
 ghost use Rattle.coding.specs.Filling.{marked};
@@ -24,9 +28,12 @@ use dvd_capture::{Stage, Work};
 use dvd_decoding::Cause;
 use rs_code::{Pi, Po};
 
-/// Decodes a captured block: each received row is answered by the codeword near it or fails; each column of the answers,
-/// with the failed rows marked, by the codeword near it; and the block of these columns must have codewords in all its rows.
+/// Decodes a captured block: each received row is answered by the codeword near it or fails; each column of the
+/// answers, with the failed rows marked, by the codeword near it; and the block of these columns must have codewords in
+/// all its rows.
 /// The stage is then Fixed, or Refused after a cause. Received bytes, marks and sectors stay.
+/// It is for callers that want the block and not its frames. `read_block` makes both calls itself, since it has to know
+/// whether the columns keep the rows.
 pub fn two_pass(work: &mut Work) -> Result<Fixed, Cause>
     requires { HasBlock (stage_of work.old) }
 
@@ -60,6 +67,8 @@ pub(crate) fn answer_block(work: &mut Work) -> bool
 }
 
 // The second pass, where no more rows failed than it can correct. Answers whether it corrects no row that was answered.
+// With more failed rows the columns stay as they were, perhaps those of an earlier block. `find_columns` refuses such a
+// block before it looks at them. `false` claims nothing: the rows are tested then.
 fn answer_all_columns(answers: &[AnswerRow], columns: &mut [ColumnAnswer]) -> bool
     requires rows { length answers.now ≡ 208 }
     requires columns { length columns.old ≡ 182 }
@@ -74,8 +83,10 @@ fn answer_all_columns(answers: &[AnswerRow], columns: &mut [ColumnAnswer]) -> bo
     answer_columns(&Po::new(), answers, &failed, 0, columns)
 }
 
-/// Sets the stage of a block whose rows and columns are answered, as `two_pass` does: the block of these columns must have
-/// codewords in all its rows. Where the columns correct no row that was answered, these rows are codewords and need no test.
+/// Sets the stage of a block whose rows and columns are answered, as `two_pass` does: the block of these columns must
+/// have codewords in all its rows. Where the columns correct no row that was answered, these rows are codewords and
+/// need no test.
+/// It is public for those who answer the pieces of both passes by several workers. All buffers stay.
 pub fn end_passes(work: &mut Work, are_kept: bool) -> Result<Fixed, Cause>
     requires answers { AreAnswersFrom (rows_of work.old) (marks_of_work work.old) 0 (answers_of_work work.old) }
     requires columns { marked (failed_of (map answer_word (answers_of_work work.old))) ≤ 16
@@ -87,6 +98,7 @@ pub fn end_passes(work: &mut Work, are_kept: bool) -> Result<Fixed, Cause>
 {
     match find_block(work, are_kept) {
         Ok(failed_rows) => {
+            // The stage first: it ensures that the answers are those of the received rows, by which bytes are counted.
             work.set_stage(Stage::Fixed);
             let bytes = count_fixed(work, are_kept);
             Ok(Fixed { bytes, failed_rows })
@@ -98,7 +110,8 @@ pub fn end_passes(work: &mut Work, are_kept: bool) -> Result<Fixed, Cause>
     }
 }
 
-// How many rows failed, or why there is no block.
+// How many rows failed, or why there is no block. Its clauses are of the captured block, and those of `find_columns` of
+// answers alone, whatever was received.
 fn find_block(work: &Work, are_kept: bool) -> Result<u16, Cause>
     requires answers { AreAnswersFrom (rows_of work.now) (marks_of_work work.now) 0 (answers_of_work work.now) }
     requires columns { marked (failed_of (map answer_word (answers_of_work work.now))) ≤ 16
@@ -118,7 +131,9 @@ fn find_block(work: &Work, are_kept: bool) -> Result<u16, Cause>
 
 // The same of the answers alone.
 // More than 16 failed rows leave no column an answer, so they are counted first. The columns alone don't make a product
-// codeword: without the test of the rows a block could be answered that was never recorded.
+// codeword: without the test of the rows a block could be answered that was never recorded. The three tests have the
+// order of the causes, since a refusal names the first that applies. The failed rows are marked anew, as nothing but
+// the answers is handed on from the passes.
 fn find_columns(
     answers: &[AnswerRow],
     columns: &[ColumnAnswer],
@@ -153,8 +168,9 @@ fn find_columns(
     }
 }
 
-// The first row of the columns' words that isn't a codeword. Where rows that were answered are kept, none needs to be looked at:
-// the values of all rows at a point are a codeword of PO, so that at most sixteen failed rows vanish where all others do.
+// The first row of the columns' words that isn't a codeword. Where rows that were answered are kept, none needs to be
+// looked at: the values of all rows at a point are a codeword of PO. Those of the kept rows are 0, and no codeword but
+// zeros has at most sixteen bytes that aren't, so those of the failed rows are 0 too.
 fn find_wrong(columns: &[ColumnAnswer], are_kept: bool) -> Option<u16>
     requires columns { length columns.now ≡ 182 }
     requires right { IsTrue are_kept → (i : ℕ) → i < 208 → vanishes_at_all 10 (line (from_columns (words_of_columns columns.now)) i) ≡ true }
@@ -163,7 +179,7 @@ fn find_wrong(columns: &[ColumnAnswer], are_kept: bool) -> Option<u16>
     if are_kept { None } else { first_wrong(columns) }
 }
 
-// In how many places the block differs from what was received.
+// In how many places the block differs from what was received. Where the rows are kept, most needn't be compared.
 fn count_fixed(work: &Work, are_kept: bool) -> u32
     requires stage { HasAnswers (stage_of work.now) }
     requires kept { IsTrue are_kept → AreRowsKept (answers_of_work work.now) (block_of work.now) }
@@ -176,7 +192,8 @@ fn count_fixed(work: &Work, are_kept: bool) -> u32
     }
 }
 
-// The same where the rows that were answered are those of the block.
+// The same where the rows that were answered are those of the block. So their own counts do, and only failed rows and
+// rows with marks are compared. Each count is below 65,536, so that the sum of 208 has room in 32 bits.
 fn count_corrections(work: &Work) -> u32
     requires stage { HasAnswers (stage_of work.now) }
     requires kept { AreRowsKept (answers_of_work work.now) (block_of work.now) }

@@ -1,4 +1,5 @@
-//! Reading of a captured block as an entry of a plan.
+//! Reading of a captured block as an entry of a plan, which says which IDs its frames have. By the clauses a block was
+//! received (`HasBlock`), and the numbers of its sixteen sectors have 24 bits (`HasNumbers`), as those of every plan.
 ghost use Rattle.dvd_capture.specs.Rule.{HasBlock};
 ghost use Rattle.dvd_capture.specs.Works.{stage_of};
 ghost use Rattle.dvd_layout.specs.Place.{HasNumbers};
@@ -11,17 +12,21 @@ use dvd_capture::Work;
 use dvd_decoding::Cause;
 use dvd_layout::BlockPlan;
 
-/// Reads a captured block as an entry of a plan: two passes, then the checks of its frames. The sixteen sectors are then the
-/// Main Data of the block, or zeros after a cause. Received bytes and marks stay.
+/// Reads a captured block as an entry of a plan: two passes, then the checks of its frames. The sixteen sectors are
+/// then the Main Data of the block, or zeros after a cause. Received bytes and marks stay.
+/// Where two passes refuse the block the stage is Refused. After a cause of its frames it is Fixed, since the block was
+/// found. `tactic` lets the prover unfold the cause of a block: that of two passes, or else that of its frames.
 #[tactic(auto, unfolding(dvd_decoding::specs::Reading::block_cause))]
 pub fn read_block(work: &mut Work, plan: &BlockPlan) -> Result<Fixed, Cause>
     requires stage { HasBlock (stage_of work.old) }
     requires numbers { HasNumbers plan.now }
     ensures { IsBlockRead work.old work.new plan.now result }
 {
+    // Whether the columns keep the rows that were answered: it spares a test, and says where rows can be read whole.
     let are_kept = answer_block(work);
     match end_passes(work, are_kept) {
         Ok(fixed) => {
+            // It sets the sectors to zeros itself where a frame has a cause.
             sectors_of_block(work, plan, FrameSource::of(fixed.bytes, are_kept))?;
             Ok(fixed)
         }

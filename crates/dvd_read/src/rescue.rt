@@ -1,4 +1,6 @@
-//! What is saved of a block whose rows are answered: each data frame that can be known to be right.
+//! What is saved of a block whose rows are answered: each data frame that can be known to be right. Its candidate is
+//! the 2,064 bytes that are checked: those of the block that two passes fixed, or else of its twelve rows' answers.
+//! `HasNumbers` says that the numbers of an entry's sixteen sectors have 24 bits, as those of every plan have.
 ghost use Rattle.std.specs.Prelude.{◌≡◌, ◌<◌, ◌↔◌, IsTrue, true, length, map, not, replicate, Some, is_some, unwrap_or};
 ghost use Rattle.coding.specs.TwoPass.{answers_of};
 ghost use Rattle.dvd_capture.specs.Rule.{HasAnswers};
@@ -42,9 +44,10 @@ impl<'a> Held<'a> {
     }
 }
 
-/// Saves the data frames that can be known to be right, as those of an entry of a plan: of the block that two passes fixed,
-/// or, where they refused it, of the rows' answers. Each sector is then the unscrambled Main Data of its frame, or zeros
-/// where the frame is lost. Answers how many frames are saved. The stage and all else stay.
+/// Saves the data frames that can be known to be right, as those of an entry of a plan: of the block that two passes
+/// fixed, or, where they refused it, of the rows' answers. Each sector is then the unscrambled Main Data of its frame,
+/// or zeros where the frame is lost. Answers how many frames are saved. The stage and all else stay.
+/// Each frame is judged by itself, so that a wrong one costs no other.
 pub fn salvage(work: &mut Work, plan: &BlockPlan) -> u8
     requires stage { HasAnswers (stage_of work.old) }
     requires numbers { HasNumbers plan.now }
@@ -62,8 +65,9 @@ pub fn salvage(work: &mut Work, plan: &BlockPlan) -> u8
     save_frames(&held, plan, &mut work.sectors)
 }
 
-/// Writes the unscrambled Main Data of one data frame if it can be known to be right, as `salvage` does for all sixteen, or
-/// else zeros. Answers whether the frame is saved.
+/// Writes the unscrambled Main Data of one data frame if it can be known to be right, as `salvage` does for all
+/// sixteen, or else zeros. Answers whether the frame is saved.
+/// It is for callers that ask which frames are saved, and not only how many. `work` stays.
 pub fn salvage_frame(work: &Work, plan: &BlockPlan, f: usize, main: &mut [u8; 2048]) -> bool
     requires stage { HasAnswers (stage_of work.now) }
     requires numbers { HasNumbers plan.now }
@@ -83,7 +87,7 @@ fn save_frames(held: &Held<'_>, plan: &BlockPlan, sectors: &mut Sectors) -> u8
     ensures out { sector_bytes sectors.new ≡ sectors_saved (map answer_word held.now.answers.now) plan.now }
     ensures saved { result ≡ frames_saved (map answer_word held.now.answers.now) plan.now }
 {
-    // The frames of a block have one preset.
+    // The frames of a block have one preset, so that the scrambling bytes are made once and serve all sixteen.
     let mut scrambler = Scrambler::new();
     let mut frame = [0; 2064];
     let mut saved = 0;
@@ -95,7 +99,7 @@ fn save_frames(held: &Held<'_>, plan: &BlockPlan, sectors: &mut Sectors) -> u8
 }
 
 // Writes the Main Data of frame `f` if it is salvaged, or else zeros. Answers whether it is. `main` may have
-// been written before a check failed.
+// been written before a check failed, so the zeros come last.
 fn save_frame(
     held: &Held<'_>,
     plan: &BlockPlan,
@@ -133,6 +137,7 @@ fn read_candidate(
     ensures saved { result ≡ is_some (rescued (map answer_word held.now.answers.now) plan.now f) }
 {
     let rule = rule_of(plan.content, f);
+    // An ID is compared without b29, which a disk with two layers sets, so `false` will do.
     copy_candidate(held, f, frame)
         && read_frame_into(scrambler, frame, id_of(plan, false, f), rule, main).is_ok()
 }
@@ -153,7 +158,7 @@ fn copy_candidate(held: &Held<'_>, f: usize, frame: &mut [u8; 2064]) -> bool
 }
 
 // Writes frame `f` of the rows' answers, if all twelve rows have one. Answers whether they have. A failed row leaves
-// 172 bytes unknown, so that the frame can't be known to be right.
+// 172 bytes unknown, so that the frame can't be known to be right. `frame` may have been written in part then.
 fn copy_answered(answers: &[AnswerRow], f: usize, frame: &mut [u8; 2064]) -> bool
     requires rows { length answers.now ≡ 208 }
     requires frame { f < 16 }

@@ -1,4 +1,8 @@
 //! The first pass: each received row is answered by the codeword near it, or it fails.
+//! The values of a row are those of its polynomial at alpha^0 to alpha^9: its syndromes, all 0 for a codeword alone.
+//! They are found for 32 rows at once, in a vector for each power; row `n` of the 32 has lane `n` of each. From them it
+//! can also be proposed for 32 rows at once what to add to each. A proposal is tested before it counts, so a wrong one
+//! costs time and no answer. In clauses `IsAnswer` says that a row is answered so, by its bytes and its marks.
 ghost use Rattle.std.specs.Prelude.{◌≡◌, ℕ, ◌+◌, ◌<◌, ◌≤◌, ◌↔◌, IsTrue, false, length, map, replicate};
 ghost use Rattle.coding.specs.Field.{alpha, power};
 ghost use Rattle.coding.specs.Words.{value};
@@ -22,7 +26,7 @@ use std::simd::prelude::*;
 // More failed rows than this leave no column an answer. Each costs one of the sixteen bytes of outer parity.
 pub(crate) const MOST_FAILED: u16 = 16;
 
-// For fewer rows than this, to decode each takes less time than to propose for 32.
+// For fewer rows than this, to decode each takes less time than to propose for 32. Any number gives the same answers.
 const FEWEST_PROPOSED: u16 = 4;
 
 // What is answered of a codeword without marks.
@@ -31,7 +35,9 @@ const UNCHANGED: Fix = Fix {
     erased: 0,
 };
 
-/// Answers the rows from `start` on, one for each place of a piece of the answers.
+/// Answers the rows from `start` on, one for each place of a piece of the answers. Several workers have a piece each;
+/// one alone has all rows. Each answer is overwritten, whatever it was. The code is made once by the caller, since its
+/// generator polynomial is computed.
 pub fn answer_rows(
     code: &Pi,
     received: &Received,
@@ -62,10 +68,11 @@ fn answer_group(
     ensures size { length piece.new ≡ length piece.old }
     ensures answers { AreAnswersFrom (received_rows received.now) (marks_rows marks.now) start piece.new }
 {
-    // The last 32 rows begin at row 176.
+    // Values are found for 32 rows, also where fewer are left: the last 32 rows of 208 begin at row 176.
     let top = start.min(176);
     let values = row_values(received.rows(), top);
     let wrong = any_of(&values);
+    // Those of no row: where none are made, none is believed, and each row is decoded by itself.
     let mut proposals = Proposals::none();
     if are_many(marks, wrong, start, top, piece.len()) {
         proposals.propose(&values);
@@ -74,7 +81,8 @@ fn answer_group(
     for (k, answer) in piece.iter_mut().enumerate() {
         let i = start + k;
         let row = received.row(i);
-        // Marked rows go by themselves: each has its own marks, which are counted even where it is a codeword.
+        // Marked rows go by themselves: each has its own marks, which are counted even where it is a codeword. All 182
+        // flags are set anew.
         if !marks.is_clear(i) {
             marks.row(i, &mut row_marks);
             answer_marked(code, row, &row_marks, lane_of(&values, i - top), answer);
@@ -89,6 +97,7 @@ fn answer_group(
 
 // Whether it pays to propose for all rows at once, by the lanes that aren't zero: where at least four rows that have
 // no mark are no codewords. The last 32 rows repeat some of the group before, which don't count.
+// It has no clause: the answers are the same whether it pays or not.
 fn are_many(marks: &Marks, wrong: u8x32, start: usize, top: usize, count: usize) -> bool
     requires top { top ≤ start }
     requires lanes { start + count ≤ top + 32 }
@@ -112,7 +121,8 @@ fn answer_codeword(row: &[u8; 182], answer: &mut AnswerRow)
 }
 
 // Answers one row without marks, by its syndromes: as is proposed for it in lane `n`, if that is right, and else by
-// itself.
+// itself. `believe` tests that the proposed bytes have these syndromes. As they are five at most, the row with them
+// added is then the codeword near it, which `decode` would find too.
 fn answer_unmarked(
     code: &Pi,
     row: &[u8; 182],
@@ -131,7 +141,7 @@ fn answer_unmarked(
     }
 }
 
-// The same where nothing right is proposed.
+// The same where nothing right is proposed. What the proposal has left in the answer's bytes is overwritten.
 fn answer_alone(code: &Pi, row: &[u8; 182], syndromes: ArrayVec<u8, 32>, answer: &mut AnswerRow)
     requires { syndromes.items ≡ syndromes_of 10 row.now }
     ensures { IsAnswer row.now (replicate 182 false) answer.new }
@@ -158,7 +168,7 @@ fn answer_marked(
 }
 
 // Answers one row by its marked places and its syndromes, in the place of its answer. The received row stays, so a copy
-// of it is decoded.
+// of it is decoded. Where no codeword is near, the answer has no `fix`, and nobody reads its bytes as an answer.
 fn answer_erased(
     code: &Pi,
     row: &[u8; 182],
@@ -176,14 +186,15 @@ fn answer_erased(
     }
 }
 
-/// Whether a row is a codeword.
+/// Whether a row is a codeword. Nothing calls it now: both passes test 32 rows at once, by their values.
 pub(crate) fn is_codeword(code: &Pi, row: &[u8; 182]) -> bool
     ensures { result ≡ vanishes_at_all 10 row.now }
 {
     code.is_codeword(row)
 }
 
-/// Notes which rows failed. They are the marks of all columns.
+/// Notes which rows failed. They are the marks of all columns. All 208 flags are set anew. It is public, as
+/// `are_few` is, for dvd_par, whose second pass begins likewise.
 pub fn mark_failed(answers: &[AnswerRow], failed: &mut [bool; 208])
     requires { length answers.now ≡ 208 }
     ensures { failed.new ≡ failed_of (map answer_word answers.now) }
@@ -200,7 +211,7 @@ pub fn are_few(failed: &[bool; 208]) -> bool
     count_failed(failed) <= MOST_FAILED
 }
 
-/// How many rows failed.
+/// How many rows failed. 16 bits, as the causes have for numbers of rows.
 pub fn count_failed(failed: &[bool; 208]) -> u16
     ensures count { result ≡ marked failed.now }
     ensures within { result ≤ 208 }

@@ -1,4 +1,9 @@
 //! Squares of sixteen rows and sixteen places, transposed: the bytes of one fill sixteen registers of sixteen bytes.
+//! The functions are inlined, so that a square stays in registers on its way. `load` and `store` are here since those
+//! of rs_lanes are of vectors of 32 bytes. A row's answer has 182 bytes side by side, and a column 208, so that a copy
+//! byte by byte would touch another row for each byte of a column. In clauses `AreCopied` says that the columns have
+//! the bytes of the rows before one, and `AreOwnFrom` that they have those of all. A vector is a list there, whose
+//! length its type doesn't say: so clauses say that there are sixteen lanes.
 ghost use Rattle.std.specs.Prelude.{◌≡◌, ℕ, ◌+◌, ◌/◌, ◌%◌, ◌<◌, ◌≤◌, length, slice_index, slice_index_or, EachIndex};
 ghost use Rattle.coding.specs.Product.{line, place};
 ghost use Rattle.dvd_read.specs.Inner.Squares.{IsRiffled, IsTransposed};
@@ -8,7 +13,7 @@ ghost use Rattle.dvd_read.specs.Parts.{answer_bytes};
 use dvd_capture::parts::{AnswerRow, ColumnAnswer};
 use std::simd::prelude::*;
 
-/// Writes the bytes of the rows' answers into sixteen columns.
+/// Writes the bytes of the rows' answers into sixteen columns. 208 rows are thirteen groups of sixteen.
 pub(crate) fn copy_squares(answers: &[AnswerRow], start: usize, piece: &mut [ColumnAnswer])
     requires rows { length answers.now ≡ 208 }
     requires sixteen { length piece.old ≡ 16 }
@@ -37,8 +42,8 @@ fn copy_square(answers: &[AnswerRow], top: usize, start: usize, piece: &mut [Col
     }
 }
 
-// Sixteen places, from `at` on, of the sixteen rows' answers from `top` on, transposed: vector `k` has place `at + k` of
-// each row.
+// Sixteen places, from `at` on, of the sixteen rows' answers from `top` on, transposed: vector `k` has place `at + k`
+// of each row.
 #[inline(always)]
 fn load_square(answers: &[AnswerRow], top: usize, at: usize) -> [u8x16; 16]
     requires top { top + 16 ≤ length answers.now }
@@ -49,7 +54,7 @@ fn load_square(answers: &[AnswerRow], top: usize, at: usize) -> [u8x16; 16]
     turn(&load_rows(answers, top, at))
 }
 
-// Writes sixteen bytes of a column. Also ensures its length.
+// Writes sixteen bytes of a column. Also ensures its length, which the type of the array has and a slice wouldn't.
 #[inline(always)]
 fn put_sixteen(lanes: u8x16, at: usize, word: &mut [u8; 208])
     requires { at + 16 ≤ 208 }
@@ -106,7 +111,8 @@ fn load(row: &[u8], at: usize) -> u8x16
     u8x16::from_slice(&row[at..])
 }
 
-// Transposes a square.
+// Transposes a square. Number of vector and number of lane are four bits each, and a step rotates these eight bits by
+// one. After four steps the two numbers have changed places.
 #[inline(always)]
 fn turn(square: &[u8x16; 16]) -> [u8x16; 16]
     requires { EachIndex square.now (λ k. length (line square.now k) ≡ 16) }
@@ -131,7 +137,7 @@ fn riffle(square: &[u8x16; 16]) -> [u8x16; 16]
     riffled
 }
 
-// The first eight lanes of two vectors, alternating.
+// The first eight lanes of two vectors, alternating. Numbers from 16 on are the lanes of `b`.
 #[inline(always)]
 fn first_lanes(a: u8x16, b: u8x16) -> u8x16
     requires a { length a ≡ 16 }

@@ -1,4 +1,6 @@
-//! Worked values from outside the program.
+//! Worked values from outside the program. Helpers without a contract test what a call requires of them, a stage or a
+//! row of the block: where that doesn't hold, they do nothing or answer `None`. Products wrap where nothing bounds
+//! them.
 use crate::{Cause, Fixed, read_block, salvage, sectors, two_pass};
 use dvd_block::Block;
 use dvd_capture::{Stage, Work};
@@ -8,12 +10,13 @@ use gf_field::mul;
 use std::alloc::Global;
 use std::test::Fail;
 
-// The row codeword of the generator polynomial: it is at the last eleven places.
+// The row codeword of the row code's generator polynomial: it is at the last eleven places, 171 to 181. C1 is its last
+// byte. Moved to the left by some places it is a codeword too.
 const GENERATOR: [u8; 11] = [
     0x01, 0xD8, 0xC2, 0x9F, 0x6F, 0xC7, 0x5E, 0x5F, 0x71, 0x9D, 0xC1,
 ];
 
-// The first nine coefficients of the column code's generator polynomial.
+// The first nine of the 17 coefficients of the column code's generator polynomial.
 const COLUMN: [u8; 9] = [0x01, 0x3B, 0x0D, 0x68, 0xBD, 0x44, 0xD1, 0x1E, 0x08];
 
 const FIRST: BlockPlan = BlockPlan {
@@ -59,7 +62,7 @@ fn put_codeword(work: &mut Work, i: usize, j: usize, factor: u8) {
     }
 }
 
-// Eight rows of a block of zeros are those of another codeword.
+// Eight rows of a block of zeros are those of another codeword: eight errors in each of columns 171 to 181.
 fn eight_rows(alloc: Global) -> Result<Work, Fail> {
     let mut work = zero_block(alloc)?;
     for t in 0..8usize {
@@ -163,6 +166,10 @@ fn eight_rows_of_another_codeword_are_fixed(rt: HostRuntime) -> Result<(), Fail>
     Ok(())
 }
 
+// Column 171 has nine of the seventeen bytes of a column codeword, in rows 191 to 199, so that it is corrected to that
+// by eight more in rows 200 to 207. Each other column has eight bytes at most that aren't 0, and is near zeros. So row
+// 191, the first of the seventeen, has one byte that isn't 0, and is no codeword.
+// The ninth byte is the last of row 199, which begins at place 161, so that it adds none to columns 172 to 181.
 #[test]
 fn a_row_that_is_no_codeword_refuses_the_block(rt: HostRuntime) -> Result<(), Fail> {
     let mut work = zero_block(rt.alloc())?;
@@ -174,8 +181,8 @@ fn a_row_that_is_no_codeword_refuses_the_block(rt: HostRuntime) -> Result<(), Fa
     Ok(())
 }
 
-// The first data block, with byte f as the Main Data of frame f. A main byte of frame `edc` is changed, and a bit of the
-// IED of frame `ied`.
+// The first data block, with byte f as the Main Data of frame f. A main byte of frame `edc` is changed, and a bit of
+// the IED of frame `ied`.
 fn data_block(alloc: Global, edc: Option<u32>, ied: Option<u32>) -> Result<Work, Fail> {
     let mut block = Block::new(alloc)?;
     for f in 0..16u32 {
@@ -261,7 +268,7 @@ fn frames_without_a_fault_are_saved(rt: HostRuntime) -> Result<(), Fail> {
 
 #[test]
 fn frames_of_answered_rows_are_saved(rt: HostRuntime) -> Result<(), Fail> {
-    // Rows 0 to 16 are those of frame 0 and the first five of frame 1.
+    // Seventeen rows are one more than the columns correct. Rows 0 to 16 are those of frame 0 and five of frame 1.
     let mut work = data_block(rt.alloc(), None, None)?;
     lose_rows(&mut work, 1, 17);
     assert_eq!(rt; read(&mut work), Some(Err(Cause::Rows { failed: 17 })));

@@ -1,5 +1,7 @@
 //! The line of a damaged ECC block: its number in the plan, its place on the disk, and the first rule that it breaks.
 //! At last comes how many of its sixteen frames were salvaged. `dvdcap lost` reads these lines back.
+//! `HasNumbers` says that a block's sector numbers have 24 bits, so that six digits have them whole, as in every plan.
+//! `unfolding` is for the checker: it opens a definition that a clause names.
 ghost use Rattle.std.specs.Prelude.{◌≡◌, ◌+◌, ◌≤◌, ◌++◌, length};
 ghost use Rattle.dvd_layout.specs.Place.{HasNumbers};
 ghost use Rattle.dvd_ports.specs.Whole.{IsWritten};
@@ -12,7 +14,7 @@ use dvd_read::Cause;
 
 /// Writes the line of block `k` of a plan: `block K sector H6 layer L: CAUSE saved S` and a line feed. `H6` is the
 /// block's first sector number, and `saved` the number of its sixteen frames that were salvaged. After a fault a prefix
-/// of the line was written.
+/// of the line was written. The line has room for any `saved`: `frames` only keeps callers to counts of sixteen.
 pub fn write_cause<E: Sink>(
     k: u64,
     plan: &BlockPlan,
@@ -27,6 +29,7 @@ pub fn write_cause<E: Sink>(
     write_whole(report, line_of(k, plan, cause, saved).as_slice())
 }
 
+// The whole line. That its parts fit 256 bytes follows from the bounds of `put_block` and `put_cause`.
 #[tactic(auto, unfolding(crate::specs::Lines::damage_line))]
 fn line_of(k: u64, plan: &BlockPlan, cause: &Cause, saved: u8) -> Line
     ensures { result ≡ damage_line k plan.now cause.now saved }
@@ -41,7 +44,7 @@ fn line_of(k: u64, plan: &BlockPlan, cause: &Cause, saved: u8) -> Line
 }
 
 /// Puts block `k` of a plan at the end of a line, with its first sector number and its layer. At most 50 bytes: a
-/// number has up to 20 digits, and a layer 3.
+/// number has up to 20 digits, and a layer 3. It is public, since `dvdcap lost` looks for a line that begins so.
 #[tactic(auto, unfolding(crate::specs::Lines::block_text))]
 pub fn put_block(line: &mut Line, k: u64, plan: &BlockPlan)
     requires room { length line.old + 50 ≤ 256 }
@@ -57,7 +60,7 @@ pub fn put_block(line: &mut Line, k: u64, plan: &BlockPlan)
 }
 
 /// Puts a cause at the end of a line. At most 43 bytes: the longest is that of an address, with a number of up to 20
-/// digits.
+/// digits. The frame itself has one digit or two, but a bound for all numbers is proved once.
 #[tactic(auto, unfolding(crate::specs::Lines::cause_text))]
 pub(crate) fn put_cause(line: &mut Line, cause: &Cause)
     requires room { length line.old + 43 ≤ 256 }

@@ -1,5 +1,6 @@
 //! The rows of a captured block that have a PI error, and those that failed. Rows are counted as they were received, so
-//! that a survey shows what decoding hides.
+//! that a survey shows what decoding hides. `HasAnswers` says that the rows of the work were decoded, so that there is
+//! an answer to each.
 ghost use Rattle.std.specs.Prelude.{◌≡◌, ◌+◌, nat_lt, true, length, All, IfSome};
 ghost use Rattle.std.specs.Result.{result_err};
 ghost use Rattle.std.specs.declared.option.Option.TheVariants.{None};
@@ -13,7 +14,7 @@ use dvd_capture::Work;
 use dvd_read::{Cause, Fixed};
 use rs_decode::Fix;
 
-/// What a survey keeps of a block that was read with this answer.
+/// What a survey keeps of a block that was read with this answer. The work has the answers of both passes; it stays.
 pub(crate) fn survey_block(work: &Work, answer: &Result<Fixed, Cause>) -> Surveyed
     requires { HasAnswers (stage_of work.now) }
     ensures { result ≡ surveyed_with (rows_of work.now) (marks_of_work work.now) (result_err answer.now) }
@@ -27,7 +28,7 @@ pub(crate) fn survey_block(work: &Work, answer: &Result<Fixed, Cause>) -> Survey
 }
 
 // How many received rows have a PI error, and how many failed. The answers are asked and not the rows, which would have
-// to be tested once more.
+// to be tested once more. Both in one go through the 208 rows, whose number eight bits hold.
 fn count_rows(work: &Work) -> (u8, u8)
     requires { HasAnswers (stage_of work.now) }
     ensures pi { result.0 ≡ pi_rows (rows_of work.now) (marks_of_work work.now) }
@@ -36,6 +37,7 @@ fn count_rows(work: &Work) -> (u8, u8)
     let mut pi = 0;
     let mut failed = 0;
     for i in 0..208usize {
+        // An answer says what it corrects of a row of bytes, so the row has to be one.
         prove_row(work.row(i));
         let answer = work.answer(i);
         pi += u8::from(has_pi_error(answer));

@@ -1,4 +1,4 @@
-//! The line of a layout that breaks a rule.
+//! The line of a layout that breaks a rule. It is the last of a report, and only the first broken rule is named.
 ghost use Rattle.std.specs.Prelude.{◌≡◌, ◌<◌, ◌++◌, length};
 ghost use Rattle.dvd_report.specs.Setting.{fault_text, setting_line};
 

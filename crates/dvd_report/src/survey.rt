@@ -1,5 +1,6 @@
 //! The survey of a disk's surface: how many PI errors its blocks have, singly, in eight together, and in all. ECMA-267
-//! allows 280 in any eight blocks one after the other, so a window of eight goes along.
+//! allows 280 in any eight blocks one after the other, so a window of eight goes along. Clauses `cause` say by the
+//! counts of a sink whether a write failed.
 ghost use Rattle.std.specs.Prelude.{◌≡◌, ◌+◌, ◌-◌, ◌<◌, ◌≤◌, ◌^◌, List, [], ◌∷◌, ◌++◌, length, sum, IfOk, OnOk, OnErr};
 ghost use Rattle.std.specs.Result.{result_err};
 ghost use Rattle.std.specs.Io.KnownBytes.{Appends};
@@ -23,15 +24,16 @@ use dvd_read::{Cause, Fixed};
 use std::alloc::Global;
 use std::marker::Model;
 
-// The number of blocks that are summed together.
+// The number of blocks that are summed together. The first seven have fewer before them, and sums of fewer. Blocks
+// follow each other as in the plan, so that a sum may go from one zone or layer to the next.
 const WINDOW: usize = 8;
 
-// Sums above this are counted: ECMA-267 allows 280.
+// Sums above this are counted: ECMA-267 allows 280, so 280 itself isn't.
 const MANY: u32 = 280;
 
 /// A survey: totals over all blocks, the PI error rows of the last eight, and the last block.
 /// It keeps only these of the list of its blocks; a contract sees it as the survey of that list. So a disk of any size
-/// is surveyed in the same memory.
+/// is surveyed in the same memory. `StandsFor` relates the two; a clause with it holds for each list that this is of.
 #[derive(Drop)]
 pub struct Survey {
     totals: Totals,
@@ -64,7 +66,8 @@ impl Survey {
     }
 
     /// Adds a block that was decoded, and what was answered to it. The rows are counted as they were received. The work
-    /// stays, and no memory is allocated.
+    /// stays, and no memory is allocated. With fewer than 2^32 blocks before, no total passes 64 bits. `HasAnswers`:
+    /// its rows were decoded.
     pub fn add(&mut self, work: &Work, answer: &Result<Fixed, Cause>)
         requires answers { HasAnswers (stage_of work.now) }
         requires room { self.old.totals.blocks < 2 ^ 32 }
@@ -73,13 +76,14 @@ impl Survey {
             → StandsFor self.new (blocks ++ surveyed_with (rows_of work.now) (marks_of_work work.now) (result_err answer.now) ∷ []) }
     {
         let block = survey_block(work, answer);
-        // A full window gives its oldest number back, which isn't needed any more.
+        // First into the window, since the sum is with the new block. A full window gives its oldest number back, which
+        // isn't needed any more.
         let _ = self.window.push_back(block.pi);
         self.totals = totals_with(&self.totals, &block, sum_of(&self.window));
         self.last = Some(block);
     }
 
-    /// The totals over all blocks so far.
+    /// The totals over all blocks so far. Tests look at them; programs write their line.
     pub fn totals(&self) -> Totals
         ensures { result ≡ self.now.totals }
     {
@@ -114,6 +118,7 @@ impl Survey {
         write_whole(out, line_of_totals(&self.totals).as_slice())
     }
 
+    // The line of the last block, whole, so that it goes out as one piece. Blocks are counted from 0.
     fn last_line(&self, plan: &BlockPlan) -> Line
         requires { 0 < self.now.totals.blocks }
         ensures { (blocks : List Surveyed) → StandsFor self.now blocks → result ≡ survey_line (length blocks - 1) plan.now blocks }
@@ -131,6 +136,7 @@ impl Survey {
     }
 }
 
+// The totals of no block. The peak is 0 at block 0 until a block has an error.
 fn no_totals() -> Totals
     ensures totals { result ≡ totals_of [] }
     ensures bounded { IsBounded result }
@@ -147,7 +153,8 @@ fn no_totals() -> Totals
     }
 }
 
-// The totals with one more block, whose sum of eight this is.
+// The totals with one more block, whose sum of eight this is. The sum comes from the window: totals don't have it.
+// `bounded` says that each total is at most 255 for each block, so that none overflows.
 fn totals_with(totals: &Totals, block: &Surveyed, sum: u32) -> Totals
     requires bounded { IsBounded totals.now }
     requires room { totals.now.blocks < 2 ^ 32 }
@@ -162,7 +169,8 @@ fn totals_with(totals: &Totals, block: &Surveyed, sum: u32) -> Totals
         failed: totals.failed + u64::from(block.failed),
         damaged: totals.damaged + u64::from(block.cause.is_some()),
         peak: totals.peak.max(sum),
-        // Only a greater sum, so that the first block of several is named.
+        // Only a greater sum, so that the first block of several is named. The new block's number is how many came
+        // before.
         peak_at: if sum > totals.peak {
             totals.blocks
         } else {
@@ -182,7 +190,7 @@ fn sum_of(window: &HeapCircularBuffer<u8>) -> u32
     sum_of_part(older) + sum_of_part(newer)
 }
 
-// At most eight numbers of eight bits, so that the sum has a bound.
+// At most eight numbers of eight bits, so that the sum has a bound: 8 times 255.
 fn sum_of_part(numbers: &[u8]) -> u32
     requires { length numbers.now ≤ 8 }
     ensures sum { result ≡ sum numbers.now }

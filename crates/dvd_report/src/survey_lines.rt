@@ -1,5 +1,6 @@
 //! The lines of a survey: one of each block, and one of totals. They are results and go to the output, not to the
-//! report.
+//! report. A PI error row is one that was received with an error or a mark; a failed row is uncorrectable. `unfolding`
+//! is for the checker: it opens a definition that a clause names.
 ghost use Rattle.std.specs.Prelude.{◌≡◌, ◌+◌, ◌≤◌, ◌++◌, length};
 ghost use Rattle.dvd_report.specs.Survey.{answer_text, line_of_totals, surveyed_line};
 
@@ -9,7 +10,8 @@ use crate::text::Line;
 use dvd_layout::BlockPlan;
 use dvd_read::Cause;
 
-/// The line of block `k` of a plan, with the PI error rows of it and the seven before it.
+/// The line of block `k` of a plan. `sum` is the PI error rows of it and the seven before it, which one block doesn't
+/// show. The counts of one block have eight bits, since a block has 208 rows.
 #[tactic(auto, unfolding(crate::specs::Survey::surveyed_line))]
 pub(crate) fn line_of_block(k: u64, plan: &BlockPlan, block: &Surveyed, sum: u32) -> Line
     ensures { result ≡ surveyed_line k plan.now block.now sum }
@@ -39,7 +41,7 @@ fn put_answer(line: &mut Line, cause: Option<Cause>)
     }
 }
 
-/// The line of totals.
+/// The line of totals. It has seven numbers of at most 20 digits, so it fits a `Line`.
 #[tactic(auto, unfolding(crate::specs::Survey::line_of_totals))]
 pub(crate) fn line_of_totals(totals: &Totals) -> Line
     ensures { result ≡ line_of_totals totals.now }

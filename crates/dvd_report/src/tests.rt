@@ -1,4 +1,6 @@
 //! Worked lines from outside the program.
+//! A call may need a stage of the work or a bound, which the data of a test don't prove. So it is asked first. Where it
+//! doesn't hold nothing is done, and the comparison fails.
 use crate::{Survey, Totals, write_cause};
 use dvd_block::Block;
 use dvd_capture::{Stage, Work};
@@ -66,7 +68,7 @@ const LINES: [(u64, u64, Cause, u8, &[u8]); 7] = [
 #[test]
 fn each_cause_has_its_line(rt: HostRuntime) -> Result<(), Fail> {
     let alloc = rt.alloc();
-    let layout = Layout::new(Shape::Opposite, 32, 16, 0, 16).expect(&rt, "a lawful layout");
+    let layout = Layout::new(Shape::Opposite, 32, 16, 0, 16).expect(&rt, "a valid layout");
     for (b, k, cause, saved, line) in LINES {
         assert!(rt; b < layout.blocks(Zones::All));
         let plan = layout.plan(Zones::All, b);
@@ -195,6 +197,7 @@ static BLOCKS: [(usize, usize, &[u8]); 21] = [
     ),
 ];
 
+// Sets a received byte and its mark, at a place of the order of the block.
 fn put(work: &mut Work, i: usize, j: usize, byte: u8, mark: bool) {
     if work.stage() == Stage::Fetched && i < 208 && j < 182 {
         work.damage(i, j, byte, mark);
@@ -262,7 +265,7 @@ fn write_last(
 #[test]
 fn sums_of_eight_rise_and_fall(rt: HostRuntime) -> Result<(), Fail> {
     let alloc = rt.alloc();
-    let layout = Layout::new(Shape::Single, 336, 0, 0, 16).expect(&rt, "a lawful layout");
+    let layout = Layout::new(Shape::Single, 336, 0, 0, 16).expect(&rt, "a valid layout");
     let zeros = Block::new(alloc)?;
     let mut work = Work::new(alloc)?;
     let mut survey = Survey::new(alloc)?;
@@ -307,7 +310,7 @@ fn read_and_add(survey: &mut Survey, work: &mut Work, plan: &BlockPlan) {
 #[test]
 fn a_block_has_its_line_and_the_survey_its_totals(rt: HostRuntime) -> Result<(), Fail> {
     let alloc = rt.alloc();
-    let layout = Layout::new(Shape::Single, 16, 0, 0, 16).expect(&rt, "a lawful layout");
+    let layout = Layout::new(Shape::Single, 16, 0, 0, 16).expect(&rt, "a valid layout");
     assert!(rt; 0 < layout.blocks(Zones::DataOnly));
     let plan = layout.plan(Zones::DataOnly, 0);
     let zeros = Block::new(alloc)?;

@@ -9,7 +9,7 @@ use itoa::Buffer;
 use std::marker::Model;
 
 /// A line of text, of at most 256 bytes. A contract sees it as the list of its bytes. No line of a report is longer,
-/// and `room` shows at each call that what is put fits.
+/// and `room` shows at each call that what is put fits. Any size with which those clauses hold would do.
 #[derive(Drop)]
 pub struct Line {
     bytes: ArrayVec<u8, 256>,
@@ -36,7 +36,7 @@ impl Line {
         }
     }
 
-    /// Puts a text at the end of the line.
+    /// Puts a text at the end of the line. What the line had before stays, here and below.
     pub fn put(&mut self, text: &[u8])
         requires room { length self.old + length text.now ≤ 256 }
         ensures bytes { self.new ≡ self.old ++ text.now }
@@ -72,12 +72,13 @@ impl Line {
         ensures bytes { self.new ≡ self.old ++ hexadecimal width number }
         ensures len { length self.new ≡ length self.old + width }
     {
+        // A line grows at its end alone, so the highest digit comes first. Higher digits than `width` are left out.
         for place in (0..width).rev() {
             self.put(&[hexadecimal_digit(number / 16u32.pow(place) % 16)]);
         }
     }
 
-    /// Puts a text and a number in decimal at the end of the line.
+    /// Puts a text and a number in decimal at the end of the line: most lines are made of such pairs.
     pub fn put_named(&mut self, name: &[u8], number: u64)
         requires room { length self.old + length name.now + 20 ≤ 256 }
         ensures bytes { self.new ≡ self.old ++ name.now ++ decimal number }
@@ -96,6 +97,7 @@ impl Line {
     }
 }
 
+// A table, since the digits from A on don't follow 9 in ASCII.
 fn hexadecimal_digit(value: u32) -> u8
     requires { value < 16 }
     ensures { result ≡ digit_glyph true value }

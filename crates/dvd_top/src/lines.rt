@@ -6,7 +6,9 @@ use dvd_loop::LoopEnd;
 use dvd_report::Line;
 use dvd_words::{Command, Unit, unit_of};
 
-/// The line that closes the report of a run; empty where the report has failed.
+/// The line that closes the report of a run; empty where the report has failed. Ends that count units name them by what
+/// the command goes over. Only captured blocks have marks, so `BadMarks` always names a block. One unit has the plural
+/// too, so that the text has one form, which `dvdcap lost` reads.
 pub fn closing_line(command: Command, end: LoopEnd) -> Line
     ensures { result ≡ closing_line command end }
 {
@@ -49,7 +51,7 @@ pub fn closing_line(command: Command, end: LoopEnd) -> Line
     line
 }
 
-// What a unit is called in a closing line.
+// What a unit is called in a closing line. `short` shows that a line with it fits its 256 bytes.
 fn name_of(unit: Unit) -> &'static [u8]
     ensures name { result.now ≡ unit_name unit }
     ensures short { length result.now ≤ 6 }

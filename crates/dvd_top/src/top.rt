@@ -17,6 +17,7 @@ use std::thread::Threads;
 /// Does what the arguments ask for: reads `src`, writes to `out`, and writes lines to `report`. The last line names how
 /// the run ended. Each worker asks the gate before its pieces; nothing that is read, written or reported depends on it.
 /// The contract says which bytes an input, an output or a report has where these are known.
+/// `main` and the tests each have a runtime of their own, so it is a parameter: it makes the threads of the workers.
 pub fn run<R: Threads + Sync, S: Source, K: Sink, E: Sink, G: Gate>(
     rt: &R,
     alloc: Global,
@@ -36,6 +37,8 @@ pub fn run<R: Threads + Sync, S: Source, K: Sink, E: Sink, G: Gate>(
         Err(WordsFault::Usage) => refuse(Status::Usage, b"usage\n", report),
         Err(WordsFault::NoMemory) => refuse(Status::NoMemory, b"no memory\n", report),
         Ok(settings) => match perform(&Workers { rt, gate }, alloc, &settings, src, out, report) {
+            // The closing line is written even after a fault of the input or the output. Where it can't be, `close`
+            // gives `ReportFault` in place of the end.
             Ok(end) => close(end, closing_line(settings.command, end).as_slice(), report).into(),
             Err(Refusal::Setting(fault)) => refuse(
                 Status::Setting,

@@ -1,4 +1,5 @@
 //! Numbers, amounts of bytes and lists of numbers, and texts that have a value for each of several cases.
+//! A text may have any number, so sums and products are checked or stop at the largest number: nothing overflows.
 use std::alloc::Global;
 
 /// The bytes of a row, and of a row with its marks.

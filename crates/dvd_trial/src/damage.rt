@@ -1,7 +1,7 @@
 //! Bytes of a capture that are lost, wrong or doubtful, at places of its blocks.
 use crate::amounts::{BLOCK_BYTES, MARKED_ROW_BYTES, NumberRange, ROW_BYTES, byte, is, number};
 
-/// What happens to a byte: these bits of it are kept, and then those inverted. In the marked form it also gets a mark,
+// What happens to a byte: these bits of it are kept, and then those inverted. In the marked form it also gets a mark,
 // or none.
 #[derive(Clone, Copy)]
 struct Hit {
@@ -40,6 +40,8 @@ pub fn damage_bytes(verb: &str, rest: &str, bytes: &mut [u8]) -> Option<()> {
     Some(())
 }
 
+// What isn't named is all: 601 blocks are more than a test has, and no row or sector has more than 2,352 bytes. Places
+// that aren't there are passed over by `change`.
 fn read_places(text: &str) -> Option<Places> {
     let mut places = Places {
         blocks: NumberRange::of("0 to 600")?,
@@ -72,6 +74,8 @@ fn read_places(text: &str) -> Option<Places> {
     Some(places)
 }
 
+// There is never more than this number of blocks, a marked one being longer. Sectors are counted from the first byte of
+// all.
 fn hit_places(places: &Places, hit: Hit, bytes: &mut [u8]) -> Option<()> {
     let blocks = if places.sector > 0 {
         1
@@ -83,6 +87,7 @@ fn hit_places(places: &Places, hit: Hit, bytes: &mut [u8]) -> Option<()> {
             hit_row(places, places.blocks.at(k), i, hit, bytes);
         }
     }
+    // Rows are hit only in bytes that are whole rows of one form; else the text is wrong.
     is(places.sector > 0 || bytes.len() % ROW_BYTES == 0 || bytes.len() % MARKED_ROW_BYTES == 0)
 }
 
@@ -111,7 +116,8 @@ pub fn recorded(row: usize) -> usize {
     }
 }
 
-// A row in the marked form has its marks after it. The high bit of their first byte is that of the row's first byte.
+// A row in the marked form has its marks after it. The high bit of their first byte is that of the row's first byte. A
+// hit without a mark is of the plain form, or of a sector.
 fn hit_at(row: usize, at: usize, length: usize, hit: Hit, bytes: &mut [u8]) {
     let Some(mark) = hit.mark else {
         let place = row.saturating_mul(length).saturating_add(at);

@@ -17,13 +17,13 @@ pub fn hold<R: AllocGlobal + Threads + Sync + Eprint>(rt: &R, text: &str) -> Hel
     Ok(())
 }
 
-/// Whether a line of the text doesn't hold. Nothing is printed.
+/// Whether a line of the text doesn't hold: for tests that what is wrong is refused. Nothing is printed.
 pub fn fails<R: AllocGlobal + Threads + Sync>(rt: &R, text: &str) -> bool {
     TrialState::new(rt).holds(text).is_none()
 }
 
-// The arguments that ran last, their result, and where the output first differs from the wanted one: as an image, and as
-// a capture of both forms.
+// The arguments that ran last, their result, and where the output first differs from the wanted one: as an image, and
+// as a capture of both forms.
 fn print<R: Eprint>(rt: &R, trial: &TrialState<R>) {
     let words = trial.words.split(" or ").nth(trial.last).unwrap_or("");
     let (line, left) = (trial.line.as_str(), &trial.left);

@@ -2,14 +2,15 @@
 use dvd_par::Gate;
 use std::sync::atomic::{AtomicU64, Ordering};
 
-// How often a piece looks at the counter of the other, at most.
+// How often a piece looks at the counter of the other, at most. So a run ends whose workers don't meet. Any number
+// would do that takes longer than a worker needs to begin.
 const MOST_LOOKS: u64 = 50_000_000;
 
 #[derive(Drop)]
 pub struct Counting {
     // Whether pieces 0 and 1 wait until the other has been called as often.
     meets: bool,
-    // The calls of each piece: a hexadecimal digit each, that of piece 0 the lowest.
+    // The calls of each piece, up to 15: a hexadecimal digit each, that of piece 0 the lowest, so sixteen fit 64 bits.
     digits: AtomicU64,
     // Calls of a piece that can't be, and waits that ran out. After one nobody waits.
     faults: AtomicU64,

@@ -1,4 +1,4 @@
-//! The steps by which bytes are made. Each adds bytes to those before it or changes them.
+//! The steps by which bytes are made, as the head of `lib` lists them. Each adds bytes or changes those before it.
 use crate::amounts::{
     BLOCK_BYTES, MARKED_BLOCK_BYTES, MARKED_ROW_BYTES, ROW_BYTES, amount, byte, is, number,
 };
@@ -30,6 +30,7 @@ pub fn do_step(alloc: Global, text: &str, bytes: &mut Vec<u8>) -> Option<()> {
     }
 }
 
+// `front` keeps so many, `cut` all but the last; `from` moves so many to the end, `repeat` adds the last once more.
 fn move_bytes(verb: &str, count: usize, bytes: &mut Vec<u8>) -> Option<()> {
     let rest = bytes.len().checked_sub(count)?;
     match verb {
@@ -46,7 +47,8 @@ pub fn append_bytes(bytes: &mut Vec<u8>, more: &[u8]) -> Option<()> {
     bytes.extend_from_slice(more).ok()
 }
 
-/// Adds lines, after each of which but the last one comes a `/`.
+/// Adds lines, after each of which but the last one comes a `/`: a text is read line by line, so that it can't have
+/// their ends itself. No line that is wanted has a `/`. `trial` calls it too, for the report that must come.
 pub fn add_lines(bytes: &mut Vec<u8>, text: &str) -> Option<()> {
     for line in text.split('/') {
         append_bytes(bytes, line.as_bytes())?;
@@ -75,7 +77,7 @@ impl Generator {
     }
 }
 
-// The bytes of an image are the top eight bits of what is drawn from 8.
+// The bytes of an image are the top eight bits of what is drawn from 8. Any start but 0 would do; digests rest on this.
 fn add_image(count: usize, bytes: &mut Vec<u8>) -> Option<()> {
     let mut generator = Generator(8);
     for _ in 0..count {
@@ -91,6 +93,7 @@ fn add_counted(bytes: &mut Vec<u8>) -> Option<()> {
     Some(())
 }
 
+// Frames in reverse order: all bytes are reversed, and then those of each frame again.
 fn reverse(bytes: &mut [u8]) -> Option<()> {
     bytes.reverse();
     for frame in bytes.chunks_exact_mut(BLOCK_BYTES / 16) {
@@ -111,6 +114,7 @@ fn add_marks(alloc: Global, bytes: &mut Vec<u8>) -> Option<()> {
     Some(())
 }
 
+// Blocks of both halves in turn, as `merge` reads two captures.
 fn weave(alloc: Global, bytes: &mut Vec<u8>) -> Option<()> {
     let mut woven = Vec::new(alloc);
     let (first, second) = bytes.split_at(bytes.len() / 2);
@@ -123,7 +127,8 @@ fn weave(alloc: Global, bytes: &mut Vec<u8>) -> Option<()> {
     Some(())
 }
 
-// A row is lost with all its marks, the two spare ones too, or a byte of it is wrong.
+// A row is lost with all its marks, the two spare ones too, or a byte of it is wrong. 43 of 256 are about a sixth. That
+// byte is one of the first 128, which seven bits name, and 55 is any number but 0; lines of tests rest on both.
 fn draw_rows(capture: &mut [u8], seed: usize) -> Option<()> {
     let mut generator = Generator(seed as u64);
     for row in capture.chunks_exact_mut(MARKED_ROW_BYTES) {
@@ -150,7 +155,8 @@ fn list(alloc: Global, bytes: &mut Vec<u8>, text: &str) -> Option<()> {
     Some(())
 }
 
-// As `shape 0 zones 0 sectors 17 and 0 initial 0 tail 16`.
+// As `shape 0 zones 0 sectors 17 and 0 initial 0 tail 16`: the letters and number of the form, six numbers in this
+// order, and zeros where the header has no field. `filter_map` passes over the words between the numbers.
 fn add_header(listed: &mut Vec<u8>, text: &str) -> Option<()> {
     let mut numbers = [0; 6];
     let mut words = text.split(' ').filter_map(number);

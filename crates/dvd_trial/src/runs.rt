@@ -20,6 +20,7 @@ pub struct Left {
 }
 
 impl Left {
+    // Nothing yet. `is_same` accepts no `NoMemory`, so that this is like no result.
     pub fn new(alloc: Global) -> Left {
         Left {
             status: Status::NoMemory,

@@ -22,14 +22,14 @@ pub struct Plan {
     pub count: u64,
 }
 
-/// No call fails.
+/// No call fails. A run leaves the same by any step; by a long one it is quick.
 pub const SOUND: Plan = Plan {
     step: 40_000,
     call: StreamCall::Read,
     count: u64::MAX,
 };
 
-/// What the streams of a run have in common.
+/// What the streams of a run have in common: cells, since each of three streams notes what it sees.
 #[derive(Drop)]
 pub struct Watch {
     pub plan: Plan,
@@ -59,6 +59,7 @@ impl Watch {
         self.plan.call == call && self.plan.count == count
     }
 
+    // The kind of error after which readers and writers commonly try again, which a run must not.
     fn stop(&self) -> Error {
         self.has_stopped.set(true);
         ErrorKind::Interrupted.into()
@@ -142,7 +143,8 @@ impl<'a> Write for Output<'a> {
         }
     }
 
-    // A flush counts as the call of its stream that comes before it.
+    // A flush counts as the call of its stream that comes before it. A sink flushes each write at once, so that `write`
+    // has seen a late one already.
     fn flush(&mut self) -> io::Result<()> {
         let is_output = self.call == StreamCall::Write;
         let call = if is_output {

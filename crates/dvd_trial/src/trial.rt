@@ -58,7 +58,9 @@ impl<'a, R: AllocGlobal + Threads + Sync> TrialState<'a, R> {
         }
     }
 
-    /// Whether what a text says holds, for each case of each of its groups.
+    /// Whether what a text says holds, for each case of each of its groups. The first `spell` counts the cases: as many
+    /// as brackets have values, all brackets going on together, and one where there are none. What a group leaves in
+    /// the state stays for the next, and texts rest on it. None is also a text that can't be read, or want of memory.
     pub fn holds(&mut self, text: &str) -> Option<()> {
         let mut spelt = String::new(self.alloc);
         for group in text.split("\n\n") {
@@ -137,7 +139,9 @@ impl<'a, R: AllocGlobal + Threads + Sync> TrialState<'a, R> {
         Some(())
     }
 
-    // What these steps make of the bytes. They become what a run writes over them, or a step is done to them.
+    // What these steps make of the bytes. They become what a run writes over them, or a step is done to them. `left` is
+    // scratch here: what lines ask of a result is asked of `kept`, or at once after a run of their own. A step states
+    // the length, so that a run that leaves other bytes than its author meant fails here, and not where they are used.
     fn made(&mut self, text: &str, mut bytes: Vec<u8>) -> Option<Vec<u8>> {
         for part in text.split(" | ") {
             match part.split_once(" makes ") {
@@ -169,7 +173,7 @@ impl<'a, R: AllocGlobal + Threads + Sync> TrialState<'a, R> {
         run_over(self.rt, &OpenGate, words, &self.case, plan, &mut self.left)
     }
 
-    // The runs leave what is wanted, each the same. It is kept.
+    // The runs leave what is wanted, each the same. It is kept: by a swap, which needs no memory. The plan is for once.
     fn comes(&mut self, wanted: &str) -> Option<()> {
         let plan = replace(&mut self.plan, SOUND);
         is(!self.words.is_empty())?;
@@ -188,7 +192,8 @@ impl<'a, R: AllocGlobal + Threads + Sync> TrialState<'a, R> {
         Some(())
     }
 
-    // Whether the last run left this: status, length of the output and report.
+    // Whether the last run left this: status, length of the output and report. Wrong arguments, or a setting that can't
+    // be, must have been found before anything was read.
     fn has_come(&self, wanted: &str) -> Option<()> {
         let (status, rest) = wanted.split_once(", ")?;
         let (length, report) = rest.split_once(": ")?;
@@ -208,7 +213,8 @@ impl<'a, R: AllocGlobal + Threads + Sync> TrialState<'a, R> {
         )
     }
 
-    // Whether the arguments before `=` leave over the case what those after it leave over its twin.
+    // Whether the arguments before `=` leave over the case what those after it leave over its twin. They are then what
+    // is run, and what the twin leaves is what is kept.
     fn are_alike(&mut self, text: &str) -> Option<()> {
         let (words, others) = text.split_once(" = ")?;
         self.put_words("run", words)?;

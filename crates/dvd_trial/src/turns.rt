@@ -38,7 +38,8 @@ impl<'a, R: AllocGlobal + Threads + Sync> TrialState<'a, R> {
     }
 
     /// `9 reads of 5000 bytes, 16 writes of 700 bytes`: these are all calls of a stream, and where one of them fails,
-    /// all that was done before it is left.
+    /// all that was done before it is left. Last the call after these is to fail, which doesn't come: so the runs leave
+    /// the same.
     pub fn fail_in_turn(&mut self, text: &str) -> Option<()> {
         for part in text.split(", ") {
             let (calls, part) = part.split_once(' ')?;
@@ -132,7 +133,7 @@ impl<'a, R: AllocGlobal + Threads + Sync> TrialState<'a, R> {
     }
 
     /// `3 pieces, 2 times each`: each of the runs asks its gate so often for these pieces, and for no other. Where two
-    /// of them meet, they do in one of five runs.
+    /// of them meet, they do in one of five runs: a run in which a worker begins too late is tried again. Five is any.
     pub fn ask(&mut self, text: &str, meets: bool) -> Option<()> {
         let (pieces, times) = text.split_once(" pieces, ")?;
         let (pieces, times) = (number(pieces)?, number(times.strip_suffix(" times each")?)?);

@@ -1,7 +1,6 @@
 //! The tests, by subject.
 mod assemble; // scattered recording frames put in order
 mod deep; // blocks that rounds give back, and that they don't
-mod distinct; // values that functions make
 mod failing; // texts that don't hold
 mod faults; // exactly what is left after a fault
 mod hostile; // every command, in pieces and with each call failing

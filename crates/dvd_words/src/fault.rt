@@ -17,6 +17,7 @@ pub enum WordsFault {
     NoMemory,
 }
 
+// For `?` where an allocation fails. `from_gives` says to the prover what comes of it.
 impl From<AllocError> for WordsFault {
     ghost from_gives = { λ _ fault. fault ≡ NoMemory };
 

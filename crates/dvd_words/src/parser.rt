@@ -1,5 +1,6 @@
-//! The clap command of each command of the program.
-//! Values are texts to clap and are read by their forms in `values`, so that each refusal of a value is one of ours.
+//! The clap command of each command of the program. Values are texts to clap and are read by their forms in `values`,
+//! so that each refusal of a value is one of ours. In the clauses `rows_of` are the options that clap finds, with their
+//! values.
 
 ghost use Rattle.std.specs.Prelude.{◌≡◌, true, None, Some, IfOk, map, string_bytes};
 ghost use Rattle.clap.specs.Words.{app_of, found_of, is_simple_and_free, rows_of, with_rule};
@@ -15,7 +16,7 @@ use clap::{Arg, ArgAction, ArgMatches};
 use std::alloc::{AllocError, Global};
 
 /// The options in the arguments of a command, with their values. Why clap refuses arguments isn't handed on: all of it
-/// is a usage error.
+/// is a usage error. The first word is that of the command; clap passes over it.
 pub fn parse<'a>(
     alloc: Global,
     command: Command,
@@ -27,7 +28,10 @@ pub fn parse<'a>(
     parse_by(parser_for(alloc, command)?, words)
 }
 
-/// What a parser makes of some arguments. `NoMemory` comes only where there is no memory to read them with.
+/// What a parser makes of some arguments. `NoMemory` comes only where there is no memory to read them with. No clause
+/// says so, since a contract doesn't see how much memory there is. `dvdcap` reads its arguments by this too.
+/// `is_simple_and_free` says that the parser uses only what the definitions of clap cover, and that no option has a
+/// rule on another: of such a parser it is proved what it finds.
 pub fn parse_by<'a>(
     parser: clap::Command<'a>,
     words: &'a [String],
@@ -44,6 +48,7 @@ pub fn parse_by<'a>(
 }
 
 // The command's name, its options and nothing else. It has no flag for help, since the output is never a page of text.
+// It allocates, so it may fail. `free` is what `parse_by` requires.
 fn parser_for<'a>(alloc: Global, command: Command) -> Result<clap::Command<'a>, AllocError>
     ensures app { IfOk result (λ parser. app_of parser ≡ app_for command) }
     ensures free { is_simple_and_free (app_for command) ≡ true }
@@ -61,6 +66,7 @@ fn with_options<'a>(
 ) -> Result<clap::Command<'a>, AllocError>
     ensures { IfOk result (λ r. app_of r ≡ with_options (app_of parser.entry) (map rule options.now)) }
 {
+    // `arg` takes the parser and gives it back with one option more.
     let mut parser = parser;
     for option in options {
         parser = with_option(alloc, parser, option.name, option.is_required)?;
@@ -69,7 +75,7 @@ fn with_options<'a>(
 }
 
 /// The command with one more option, which has one value. `Set` refuses one that is given twice: a second value would
-/// have to win or lose.
+/// have to win or lose. `dvdcap` makes its options by this too.
 pub fn with_option<'a>(
     alloc: Global,
     parser: clap::Command<'a>,

@@ -27,7 +27,7 @@ pub struct Settings {
     pub cpr: [u8; 6],
     /// The form of captured blocks in a stream: plain, marked or listed.
     pub form: Form,
-    /// How many threads work, from 1 to 16.
+    /// How many threads work, from 1 to 16; of eight bits, as dvd_par takes it.
     pub workers: u8,
     /// The number that blocks are drawn from.
     pub seed: u32,

@@ -48,13 +48,13 @@ pub struct CommandSpec<'a> {
     pub takes_listed: bool,
     /// Whether it needs a number of sectors or a listed capture, which states it.
     pub sectors_or_listed: bool,
-    /// The limit of its numbers.
+    /// The limit of its numbers, by what they make together.
     pub limit: Limit,
     /// Its options, in the order in which clap gets them.
     pub options: &'a [OptionSpec<'a>],
 }
 
-/// An option of a command.
+/// An option of a command. It has one value, and is given at most once.
 pub struct OptionSpec<'a> {
     /// Its name, without the two dashes.
     pub name: &'a str,
@@ -62,7 +62,7 @@ pub struct OptionSpec<'a> {
     pub is_required: bool,
 }
 
-/// What a command goes over, one by one.
+/// What a command goes over, one by one. A closing line names it.
 #[derive(Clone, Copy, Debug, PartialEq, Eq)]
 pub enum Unit {
     /// Sectors of 2,048 or of 2,352 bytes.
@@ -82,9 +82,11 @@ pub enum Limit {
     Numbers,
     /// There is at least one sector, and none beyond address 449,999: a CD-ROM has addresses below minute 100.
     Addresses,
-    /// There is at least one block.
+    /// There is at least one block. The option is required and at least 1, but `settings` of `words` is proved for any
+    /// matches of clap, in which it may be missing and so 0.
     Blocks,
-    /// Both layers have at most 16,384 sectors, since a whole disk is kept.
+    /// Both layers have at most 16,384 sectors: `assemble` keeps the whole disk in memory, 75,712 bytes a block. 1,024
+    /// blocks are a choice. That there is a sector is a rule of the layout, which has a line of its own.
     WholeDisk,
 }
 
@@ -106,6 +108,7 @@ macro_rules! rows {
     };
 }
 
+// `must` and `may` are the words of specs/Table.antt for required options and for others.
 macro_rules! is_must {
     (must) => { true };
     (may) => { false };
@@ -129,7 +132,8 @@ static COMMANDS: [CommandSpec<'static>; 12] = rows! {
     Convert  convert  Block  false false Any       must [sectors] may [sectors1 shape zones initial tail form];
 };
 
-/// The row of a command. That clap reads each row exactly is ensured here, where it is proved by computing.
+/// The row of a command. That clap reads each row exactly is ensured here, where it is proved by computing: `free` says
+/// that clap's rules for the row are simple, and none depends on another option, as the parser needs it.
 pub fn spec_of<'a>(command: Command) -> &'a CommandSpec<'a>
     ensures row { entry result.now ≡ command_entry command }
     ensures free { is_simple_and_free (app_for command) ≡ true }
@@ -137,21 +141,22 @@ pub fn spec_of<'a>(command: Command) -> &'a CommandSpec<'a>
     &COMMANDS[command as usize]
 }
 
-/// What a command goes over.
+/// What a command goes over. It alone of a row is public: the closing line needs it, and the rest is for reading.
 pub fn unit_of(command: Command) -> Unit
     ensures { result ≡ (command_entry command).unit }
 {
     spec_of(command).unit
 }
 
-/// The command that a word names.
+/// The command that a word names, if one does. Capitals count, and no short form of a name is read.
 pub fn command_named(word: &str) -> Option<Command>
     ensures { result ≡ command_of word.now }
 {
     find_named(&COMMANDS, word)
 }
 
-// The command of the first row with this name. Twelve rows are few enough to look through.
+// The command of the first row with this name. The rows are few enough to look through. They are a parameter, since a
+// contract can't name the constant that holds them.
 fn find_named(specs: &[CommandSpec<'_>], word: &str) -> Option<Command>
     ensures { result ≡ named_in word.now specs.now }
 {

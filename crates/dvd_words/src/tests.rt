@@ -13,6 +13,7 @@ fn words(alloc: Global, text: &str) -> Result<Vec<String>, AllocError> {
     Ok(words)
 }
 
+// Arguments that ask for nothing: a wrong word, a missing option, one too many, or a value that isn't allowed.
 static USAGE: [&str; 90] = [
     "",
     "Frames",

@@ -1,5 +1,6 @@
 //! The values of options. A reader gives the default where there is no text, and `None` for a text that is no such
-//! value.
+//! value. What a text means is the definition that a clause names, as `number_in`. `dvdcap` reads its values by these
+//! functions too.
 
 ghost use Rattle.std.specs.Prelude.{◌≡◌, ◌≤◌, max, min, option_map, replicate, IfSome};
 ghost use Rattle.std.specs.Char.{is_digit};
@@ -32,6 +33,7 @@ fn number(text: &str) -> Option<u32>
     u32::from_str_radix(text, 10).ok()
 }
 
+// Whether all bytes are decimal digits: a sign isn't, nor is a digit of another script.
 fn has_digits_alone(text: &[u8]) -> bool
     ensures { result ≡ list_all (λ c. is_digit c 10) text.now }
 {
@@ -39,7 +41,7 @@ fn has_digits_alone(text: &[u8]) -> bool
 }
 
 /// A number from `least` to `most`, or the default where there is no text. `None`: another text. The default needn't be
-/// within the bounds: it is what a command without the option has.
+/// within the bounds: it is what a command without the option has. So `bounds` is of the default too.
 pub fn read_within(text: Option<&str>, least: u32, most: u32, default: u32) -> Option<u32>
     ensures value { result ≡ value_or default (number_within least most) (option_map (λ s. s.now) text.entry) }
     ensures bounds { IfSome result (λ n. (min least default ≤ n) × (n ≤ max most default)) }
@@ -57,15 +59,18 @@ pub fn read_within(text: Option<&str>, least: u32, most: u32, default: u32) -> O
     }
 }
 
-/// How many threads work: from 1 to 16, and 1 where there is no text. `None`: another text.
+/// How many threads work: from 1 to 16, and 1 where there is no text. `None`: another text. dvd_par requires at most
+/// sixteen, and no work in it rests on that number.
 pub fn read_workers(text: Option<&str>) -> Option<u8>
     ensures value { result ≡ value_or 1 (number_within 1 16) (option_map (λ s. s.now) text.entry) }
     ensures bounds { IfSome result (λ n. (1 ≤ n) × (n ≤ 16)) }
 {
+    // By `bounds` of `read_within` eight bits hold it.
     Some(read_within(text, 1, 16, 1)? as u8)
 }
 
-/// A sector number of six hexadecimal digits, or 0 where there is no text. `None`: another text.
+/// A sector number of six hexadecimal digits, or 0 where there is no text. `None`: another text. It has 24 bits, and so
+/// three bytes, which are read as bytes are: exactly two digits each, of either case.
 pub fn read_sector_number(text: Option<&str>) -> Option<u32>
     ensures { result ≡ value_or 0 sector_number_of (option_map (λ s. s.now) text.entry) }
 {
@@ -78,7 +83,7 @@ pub fn read_sector_number(text: Option<&str>) -> Option<u32>
     }
 }
 
-/// CPR_MAI, as twelve hexadecimal digits, or zeros where there is no text. `None`: another text.
+/// CPR_MAI, as twelve hexadecimal digits of either case, or zeros where there is no text. `None`: another text.
 pub fn read_cpr(text: Option<&str>) -> Option<[u8; 6]>
     ensures { result ≡ value_or (replicate 6 0) (hex_bytes 6) (option_map (λ s. s.now) text.entry) }
 {
@@ -88,7 +93,8 @@ pub fn read_cpr(text: Option<&str>) -> Option<[u8; 6]>
     }
 }
 
-/// How many layers there are, and the track path of two; one layer where there is no text. `None`: another text.
+/// How many layers there are, and the track path of two; one layer where there is no text. `None`: another text. Names
+/// are compared byte by byte, here and below, so `Single` is none.
 pub fn read_shape(text: Option<&str>) -> Option<Shape>
     ensures { result ≡ value_or Shape.Single shape_of (option_map (λ s. s.now) text.entry) }
 {

@@ -1,5 +1,6 @@
 //! Reads the arguments of the command line: the word of the command, its options by clap, their values, and what these
-//! need together. Whatever is wrong is one usage error, so `None` says enough.
+//! need together. Whatever is wrong is one usage error, so `None` says enough. In the clauses `rows_of` are the options
+//! that clap finds, with their values. `tactic` says to the prover which definitions a proof needs.
 
 ghost use Rattle.std.specs.Prelude.{◌≡◌, ◌+◌, None, IfOk, IfSome, map, option_map, string_bytes};
 ghost use Rattle.clap.specs.Words.{first_of, found_of, rows_of};
@@ -17,7 +18,7 @@ use clap::ArgMatches;
 use dvd_capture::Form;
 use std::alloc::Global;
 
-/// The settings that the arguments ask for.
+/// The settings that the arguments ask for. `Usage` comes only where they ask for none.
 #[tactic(auto, unfolding(crate::specs::Reading::reading))]
 pub fn read(alloc: Global, words: &[String]) -> Result<Settings, WordsFault>
     ensures read { IfOk result (Reads (map string_bytes words.now)) }
@@ -36,7 +37,8 @@ pub fn read(alloc: Global, words: &[String]) -> Result<Settings, WordsFault>
 }
 
 // Each option by its form. All options are read whatever the command is: one that it doesn't have wasn't accepted by
-// clap, and so has its default.
+// clap, and so has its default. So a default may be out of the range of the option: 0 blocks or captures are those of a
+// command that has none. The default of 16 blocks of tail, and the most blocks and captures, are choices.
 #[tactic(auto, unfolding(crate::specs::Reading::settings_of))]
 fn settings(command: Command, matches: &ArgMatches<'_>) -> Option<Settings>
     ensures value { result ≡ settings_of command (rows_of (found_of matches.now)) }
@@ -78,7 +80,7 @@ fn has_layout(command: Command, form: Form, matches: &ArgMatches<'_>) -> bool
     }
 }
 
-// Whether an option states the layout or a part of it.
+// Whether an option states the layout or a part of it. A value that is also the default counts, as it was written.
 fn tells_layout(matches: &ArgMatches<'_>) -> bool
     ensures { result ≡ tells_layout (rows_of (found_of matches.now)) }
 {
@@ -107,13 +109,15 @@ fn is_within(limit: Limit, settings: &Settings) -> bool
     }
 }
 
+// Whether an option is given, whatever its value is.
 fn is_given(matches: &ArgMatches<'_>, name: &str) -> bool
     ensures { result ≡ is_given name.now (rows_of (found_of matches.now)) }
 {
     given(matches, name).is_some()
 }
 
-/// The value of an option, if it is given. A flag always has a value, which says whether it is given.
+/// The value of an option, if it is given. A flag always has a value, which says whether it is given. It is public for
+/// `dvdcap`, which has flags; no command here has one.
 pub fn given<'a>(matches: &ArgMatches<'a>, name: &str) -> Option<&'a str>
     ensures { option_map (λ s. s.now) result ≡ first_of name.now (rows_of (found_of matches.now)) }
 {

@@ -1,5 +1,6 @@
 -- A word as the end of a longer one that begins with zeros: it is a codeword where the longer one is (codeword-longer,
--- codeword-shorter), near where that is near (near-longer, near-shorter), and found where that is found (found, found-none).
+-- codeword-shorter), near where that is near (near-longer, near-shorter), and found where that is found (found,
+-- found-none).
 use Rattle.std.proofs.Common.{◌≡◌, ℕ, zero, suc, ◌+◌, ◌-◌, ◌<◌, ◌≤◌, Bool, false, not, ◌==◌, List, ◌∷◌, ◌++◌, length, get_or, take, drop, replicate, refl, sym, ap, subst, ◌∙◌, zero-add, arith}
 use Rattle.std.proofs.lemmas.List.{length-append, length-map, length-replicate, get_or-append_right, take_at, drop_at, drop-take, take-take, take-append-drop}
 use Rattle.std.proofs.lemmas.List.Elements.{All-append, All-replicate}

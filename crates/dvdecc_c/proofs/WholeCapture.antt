@@ -1,4 +1,5 @@
--- A source over as many bytes as a block has in the marked form gives a whole block, and it is the block of these bytes.
+-- A source over as many bytes as a block has in the marked form gives a whole block, and it is the block of these
+-- bytes.
 use Rattle.std.proofs.Common.{◌≡◌, ℕ, ◌<◌, Bool, false, List, [], ◌++◌, length, refl, sym, ◌∙◌, ap, arith}
 use Rattle.std.proofs.lemmas.List.{append-nil, length-append, nil_from_length}
 use Rattle.dvd_ports.specs.Memory.{SliceState, slice_seen}

@@ -43,7 +43,8 @@ block_with id (Some content) = block_named id content
 abbrev pub asked_block : ℕ → ℕ → Result BlockPlan ℕ
 asked_block id rule = block_with id (content_ruled rule)
 
--- the numbers of a block that may be asked for are in range, and what is wrong with another isn't reported as missing memory
+-- the numbers of a block that may be asked for are in range, and what is wrong with another isn't reported as missing
+-- memory
 abbrev pub HasAsked : Result BlockPlan ℕ → Type 0
 HasAsked (Err status) = status ≢ NO_MEMORY
 HasAsked (Ok entry) = HasNumbers entry

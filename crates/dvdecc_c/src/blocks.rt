@@ -1,5 +1,11 @@
 //! Whole blocks (ECMA-267, 18): their parity, and two passes over a captured one. A capture is in the marked form, so
-//! that one call takes bytes and marks.
+//! that one call takes bytes and marks: 208 rows of 182 bytes, each with 23 bytes of marks, 42,640 in all.
+//!
+//! Two passes decode the rows, then the columns with the failed rows as erasures, and then test all rows. A cause is
+//! the first reason why no block comes of that. `Work` is the memory of one block: rows and marks as received, and what
+//! the passes made of them. It is taken for a call and given back at its end. In the clauses 2 is the status NO_MEMORY,
+//! which may come of any block. The stage of a `Work` says how far it is: `Fetched` once a block was received, `Fixed`
+//! once two passes found one.
 ghost use Rattle.std.specs.Prelude.{◌≡◌, ◌≢◌, ◌↔◌, ◌<◌, IsTrue};
 ghost use Rattle.coding.specs.Product.{IsParityAdded, IsProduct, line};
 ghost use Rattle.coding.specs.TwoPass.{answers_of};
@@ -30,7 +36,8 @@ pub struct Report {
     pub number: u32,
 }
 
-/// Sets the parity of a block: the last ten bytes of each row and the last sixteen rows.
+/// Sets the parity of a block: the last ten bytes of each row and the last sixteen rows. It is set in place, so it
+/// takes no memory and has no status.
 #[unsafe(no_mangle)]
 pub extern "C" fn dvdecc_block_parity(rows: &mut [[u8; 182]; 208])
     ensures { IsParityAdded rows.old rows.new }
@@ -47,7 +54,7 @@ pub extern "C" fn dvdecc_block_is_codeword(rows: &[[u8; 182]; 208]) -> bool
 }
 
 /// Decodes a captured block by two passes, and writes its rows in the order of the block. After a cause the caller's
-/// rows stay as they were.
+/// rows stay as they were, and the report has the number of the cause. Without memory both stay.
 #[unsafe(no_mangle)]
 pub extern "C" fn dvdecc_two_pass(
     alloc: Global,
@@ -68,17 +75,17 @@ pub extern "C" fn dvdecc_two_pass(
     decode_received(&mut work, rows, report)
 }
 
-// Receives a captured block.
+// Receives a captured block. The received rows are in the order of the block, those of a capture in that of recording.
 pub(crate) fn receive(capture: &[u8; 42640], work: &mut Work)
     ensures stage { stage_of work.new ≡ Fetched }
     ensures rows { rows_of work.new ≡ captured_rows Marked capture.now }
     ensures marks { marks_of_work work.new ≡ captured_marks Marked capture.now }
 {
-    // A list of so many bytes gives a whole block.
+    // The answer is known: a list of so many bytes gives a whole block, and marks of this form break no rule.
     let _answer = fetch(&mut SliceSource::new(capture), Form::Marked, work);
 }
 
-// Decodes a block that was received.
+// Decodes a block that was received. The caller's rows are written only once the block is found.
 fn decode_received(work: &mut Work, rows: &mut [[u8; 182]; 208], report: &mut Report) -> u32
     requires { stage_of work.old ≡ Fetched }
     ensures status { result ≡ block_status (two_pass_cause (answers_of (rows_of work.old) (marks_of_work work.old))) }
@@ -95,7 +102,7 @@ fn decode_received(work: &mut Work, rows: &mut [[u8; 182]; 208], report: &mut Re
     }
 }
 
-// The report of a block that was found.
+// The report of a block that was found. It says what was corrected; only a cause has a number.
 pub(crate) fn report_found(fixed: Fixed) -> Report
     ensures { result ≡ record { corrected = fixed.bytes; failed_rows = fixed.failed_rows; number = 0 } }
 {
@@ -106,7 +113,8 @@ pub(crate) fn report_found(fixed: Fixed) -> Report
     }
 }
 
-// Reports the number of a cause. Answers its status.
+// Reports the number of a cause. Answers its status. Two passes have the first three causes; the others are those of
+// data frames, for `dvdecc_read_block`. Which ID was found isn't reported: there is one number, that of the frame.
 pub(crate) fn report_cause(cause: Cause, report: &mut Report) -> u32
     ensures status { result ≡ cause_status cause }
     ensures report { report.new ≡ record { corrected = 0; failed_rows = 0; number = cause_number cause } }

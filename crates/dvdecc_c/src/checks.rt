@@ -7,7 +7,8 @@ ghost use Rattle.dvd_frame.specs.Id.{ied_of};
 
 use dvd_frame::Id;
 
-/// Writes the EDC of a data frame's first 2,060 bytes before scrambling, or of any other bytes.
+/// Writes the EDC of a data frame's first 2,060 bytes before scrambling, or of any other bytes. An EDC is 32 bits of
+/// check, an IED two bytes of parity of the four of an ID.
 #[unsafe(no_mangle)]
 pub extern "C" fn dvdecc_edc(bytes: &[u8], edc: &mut [u8; 4])
     ensures { edc.new ≡ edc_of bytes.now }
@@ -23,7 +24,8 @@ pub extern "C" fn dvdecc_ied(id: u32, ied: &mut [u8; 2])
     *ied = dvd_frame::ied(Id::from_word(id));
 }
 
-/// Writes the EDC of a CD-ROM sector's first 2,064 bytes, or of any other bytes.
+/// Writes the EDC of a CD-ROM sector's first 2,064 bytes, or of any other bytes. It is another code than that of a data
+/// frame.
 #[unsafe(no_mangle)]
 pub extern "C" fn dvdecc_cd_edc(bytes: &[u8], edc: &mut [u8; 4])
     ensures { edc.new ≡ cd_edc_of bytes.now }

@@ -1,12 +1,16 @@
 //! Scrambling (ECMA-267, 17) and data frames (16). A rule is given by its number, and one that isn't known is refused
-//! before anything is written.
+//! before anything is written. A rule says which Main Data bytes are scrambled: all 2,048, none, or the first 160.
+//!
+//! An ID word is the four bytes of an ID as a number: area, layer, sector number and other bits. A data frame is ID,
+//! IED (two bytes that check the ID), CPR_MAI, Main Data and EDC (which checks all before it).
 ghost use Rattle.std.specs.Prelude.{◌≡◌};
 ghost use Rattle.dvdecc_c.specs.Frames.{rule_numbered, rule_status, with_scrambling, frame_or, reading_status, with_main, with_found};
 
 use crate::status;
 use dvd_frame::{FrameCause, Id, Rule};
 
-/// Combines Main Data with the scrambling bytes of an ID word. Twice is once undone.
+/// Combines Main Data with the scrambling bytes that bits b7 to b4 of an ID word select, by exclusive or. So a second
+/// call undoes the first. The other bits of the word don't count.
 #[unsafe(no_mangle)]
 pub extern "C" fn dvdecc_scramble(id: u32, rule: u32, main_data: &mut [u8; 2048]) -> u32
     ensures status { result ≡ rule_status (rule_numbered rule) }
@@ -38,8 +42,10 @@ pub extern "C" fn dvdecc_make_frame(
     status::OK
 }
 
-/// Checks a data frame, and writes its Main Data unscrambled. Where it names another place, `found` is the ID word that
-/// it has. After any cause Main Data stay as they were.
+/// Checks a data frame, and writes its Main Data unscrambled. Its place is area, layer and sector number, which are
+/// compared with those of `id`; the other bits of an ID aren't. Where it names another place, `found` is the ID word
+/// that it has; else `found` stays. After any cause Main Data stay as they were. The first cause counts: IED, place,
+/// EDC.
 #[unsafe(no_mangle)]
 pub extern "C" fn dvdecc_read_frame(
     frame: &[u8; 2064],
@@ -66,7 +72,8 @@ pub extern "C" fn dvdecc_read_frame(
     }
 }
 
-// The rule of a number. The numbers are those of `dvdecc_rule` in include/dvdecc.h.
+// The rule of a number. The numbers are those of `dvdecc_rule` in include/dvdecc.h. C may pass any number, so a rule
+// isn't a parameter itself.
 fn numbered(rule: u32) -> Option<Rule>
     ensures { result ≡ rule_numbered rule }
 {

@@ -1,5 +1,9 @@
 //! Words of any length up to 255 with 1 to 32 parity bytes. Such a word is the end of one of 255 bytes that begins with
 //! zeros, and whose first bytes have to stay zeros.
+//!
+//! The lengths of a code are parameters of its type. With 255 for all words, 32 codes are enough: one for each number
+//! of parity bytes. 255 is the longest, since the field has 255 elements other than 0; 32 is a choice. In the clauses 5
+//! is the status BAD_LENGTH.
 ghost use Rattle.std.specs.Prelude.{◌≡◌, ◌≢◌, ◌↔◌, ◌+◌, ◌-◌, ◌<◌, ◌≤◌, ◌++◌, IsTrue, length, replicate, take, unwrap_or};
 ghost use Rattle.coding.specs.Nearest.{near_of};
 ghost use Rattle.coding.specs.Words.{IsEncoded};
@@ -11,7 +15,8 @@ use crate::words::{Correction, decode_word};
 use rs_code::Code;
 
 // Calls a function that has the number of parity bytes as a parameter of its type, for the number that is at hand. A
-// type can't be chosen by a number when the call comes, so all of them are compared with it in turn.
+// type can't be chosen by a number when the call comes, so all of them are compared with it in turn. They rise by 1, so
+// the first that isn't below the number is the number; what is left is the last.
 macro_rules! by_parity {
     ($parity:ident, $call:ident, $given:tt: $($most:literal)*; $last:literal) => {{
         $(if $parity <= $most {
@@ -37,7 +42,7 @@ pub extern "C" fn dvdecc_rs_parity(word: &mut [u8], parity: u32) -> u32
 }
 
 /// Sets a word with as many parity bytes to the codeword near it. Where none is near, or the lengths don't fit, word
-/// and correction stay.
+/// and correction stay. Each byte of `lost` but 0 marks its place. All is tested before anything is written.
 #[unsafe(no_mangle)]
 pub extern "C" fn dvdecc_rs_decode(
     word: &mut [u8],
@@ -58,14 +63,15 @@ pub extern "C" fn dvdecc_rs_decode(
     decode_any(word, lost, parity, correction)
 }
 
-// Whether there is a code of words of so many bytes with so many parity bytes.
+// Whether there is a code of words of so many bytes with so many parity bytes. `parity < size`, so that a word has a
+// message.
 fn is_code(size: usize, parity: u32) -> bool
     ensures { IsTrue result ↔ (1 ≤ parity) × (parity ≤ 32) × (parity < size) × (size ≤ 255) }
 {
     parity >= 1 && parity <= 32 && (parity as usize) < size && size <= 255
 }
 
-// Sets the parity of a word of a code.
+// Sets the parity of a word of a code. Apart from the export, since the macro returns from the function it is in.
 fn encode_any(word: &mut [u8], parity: u32)
     requires some { 1 ≤ parity }
     requires few { parity ≤ 32 }
@@ -77,7 +83,7 @@ fn encode_any(word: &mut [u8], parity: u32)
         1 2 3 4 5 6 7 8 9 10 11 12 13 14 15 16 17 18 19 20 21 22 23 24 25 26 27 28 29 30 31; 32)
 }
 
-// Decodes a word of a code.
+// Decodes a word of a code. Likewise.
 fn decode_any(word: &mut [u8], lost: &[u8], parity: u32, correction: &mut Correction) -> u32
     requires some { 1 ≤ parity }
     requires few { parity ≤ 32 }
@@ -94,7 +100,7 @@ fn decode_any(word: &mut [u8], lost: &[u8], parity: u32, correction: &mut Correc
 }
 
 // Sets the parity of a word, as the end of one of 255 bytes. Zeros before a word change none of its values, so the
-// parity is that of the word.
+// parity is that of the word. `parity` is `R` as a number, which the clauses name.
 fn encode_behind_zeros<const R: usize>(word: &mut [u8], parity: u32)
     requires parity { parity ≡ R }
     requires some { 1 ≤ R }
@@ -130,7 +136,7 @@ fn decode_behind_zeros<const R: usize>(
 {
     let front = 255 - word.len();
     let mut whole = behind_zeros(word);
-    // A copy, since the caller's correction stays where no codeword is near.
+    // A copy, since the caller's correction stays also where the codeword that is found doesn't begin with zeros.
     let mut fix = *correction;
     let status = decode_word::<255, R>(&mut whole, &behind_zeros(lost), &mut fix);
     if status != status::OK {
@@ -145,7 +151,7 @@ fn decode_behind_zeros<const R: usize>(
     status::OK
 }
 
-// A word with zeros before it, 255 bytes in all.
+// A word, or its lost places, with zeros before it, 255 bytes in all. So none of the zeros is marked as lost.
 fn behind_zeros(word: &[u8]) -> [u8; 255]
     requires { length word.now ≤ 255 }
     ensures { result ≡ replicate (255 - length word.now) 0 ++ word.now }
@@ -155,7 +161,7 @@ fn behind_zeros(word: &[u8]) -> [u8; 255]
     whole
 }
 
-// Writes a part after what comes before it.
+// Writes a part after what comes before it. What comes after the part has no clause: here there is nothing.
 fn put(out: &mut [u8], at: usize, part: &[u8])
     requires { at + length part.now ≤ length out.old }
     ensures { take (at + length part.now) out.new ≡ take at out.old ++ part.now }

@@ -2,7 +2,10 @@
 //!
 //! Nothing here is required of a caller but that memory is as include/dvdecc.h declares it: what can be tested has a
 //! status. A status is a function of the definitions, and after another status than 0 each buffer of the caller is as
-//! it was.
+//! it was, but for the numbers that say why.
+//!
+//! The exports are public and have `unsafe(no_mangle)`, since C finds them by their names. For C a slice is a pointer
+//! and a length, an array is a pointer alone, and `alloc` is no parameter: it is the memory of malloc.
 //!
 //! The tests are those of checks/c_library, which calls each export from C. Tests here would have the whole crate
 //! proved twice.

@@ -1,4 +1,6 @@
-//! Many rows by one call, for callers to whom a call costs more than a row.
+//! Many rows by one call, for callers to whom a call costs more than a row. Each row is done by the call for one row,
+//! and by itself: what comes of one changes no other. In the clauses `other` is any answer: a list is asked for a place
+//! with something to give where it has none, which doesn't happen.
 ghost use Rattle.std.specs.Prelude.{◌≡◌, ◌≢◌, ℕ, ◌<◌, length, slice_index_or, take};
 ghost use Rattle.coding.specs.Product.{line};
 ghost use Rattle.coding.specs.Words.{IsEncoded};
@@ -18,7 +20,8 @@ pub struct Answer {
     pub correction: Correction,
 }
 
-/// Sets the last 10 bytes of each row so that it is a codeword.
+/// Sets the last 10 bytes of each row so that it is a codeword. There is one list alone, so no lengths can differ, and
+/// there is no status.
 #[unsafe(no_mangle)]
 pub extern "C" fn dvdecc_rows_parity(rows: &mut [[u8; 182]])
     ensures { (i : ℕ) → i < length rows.old → IsEncoded 182 10 (take 172 (line rows.old i)) (line rows.new i) }
@@ -29,7 +32,8 @@ pub extern "C" fn dvdecc_rows_parity(rows: &mut [[u8; 182]])
 }
 
 /// Sets each row to the codeword near it, if there is one, and answers for each. Where the three lists differ in
-/// length, nothing changes and the status is BAD_LENGTH.
+/// length, nothing changes and the status is BAD_LENGTH. An uncorrectable row stays, and its answer says so: the status
+/// of the call is still OK.
 #[unsafe(no_mangle)]
 pub extern "C" fn dvdecc_rows_decode(
     rows: &mut [[u8; 182]],
@@ -51,7 +55,7 @@ pub extern "C" fn dvdecc_rows_decode(
     status::OK
 }
 
-// Decodes each of as many rows.
+// Decodes each of as many rows. By index, since three lists go along together. The caller has compared the lengths.
 fn decode_each(rows: &mut [[u8; 182]], lost: &[[u8; 182]], answers: &mut [Answer])
     requires lost { length lost.now ≡ length rows.old }
     requires answers { length answers.old ≡ length rows.old }
@@ -64,7 +68,7 @@ fn decode_each(rows: &mut [[u8; 182]], lost: &[[u8; 182]], answers: &mut [Answer
     }
 }
 
-// Decodes one row.
+// Decodes one row. What the list of answers held before doesn't matter.
 fn decode_one(row: &mut [u8; 182], lost: &[u8; 182]) -> Answer
     ensures row { row.new ≡ row_decoded row.old lost.now }
     ensures answer { result ≡ answer_to row.old lost.now }

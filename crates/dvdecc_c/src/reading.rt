@@ -1,5 +1,13 @@
 //! Captured blocks (ECMA-267, 16 to 18): their sixteen sectors, and what is salvaged of them. Each call takes the
 //! memory of one block and gives it back: no call hands out an object.
+//!
+//! A block has sixteen data frames, whose sector numbers follow each other. A cause is the first reason why a block is
+//! refused. A frame is salvaged where it is right by itself, also in a refused block: its IED, its place and its EDC
+//! are right, and where two passes find no block each of its twelve rows has a codeword near. `Work` is the memory of
+//! one block: rows and marks as received, what two passes made of them, and the sectors. In the clauses 2 is the status
+//! NO_MEMORY: it may come of any block, and the caller's buffers stay then. `asked` says that `id` and `rule` were
+//! right then, as they are tested first. The stage of a `Work` says how far it is: `Fetched` once a block was received,
+//! and `HasAnswers` once its rows were decoded.
 ghost use Rattle.std.specs.Prelude.{◌≡◌, ◌≢◌, Ok, Err};
 ghost use Rattle.coding.specs.TwoPass.{answers_of};
 ghost use Rattle.dvd_capture.specs.Captured.{captured_marks, captured_rows};
@@ -27,7 +35,8 @@ use std::alloc::Global;
 const LAST_FIRST: u32 = (1 << 24) - 16;
 
 /// Decodes a captured block, checks its sixteen data frames, and writes its sectors. `id` names the first frame, and
-/// `rule` is that of the first frame. Only a block that is right gives its sectors.
+/// `rule` is that of the first frame. Only a block that is right gives its sectors: after a cause they stay, and the
+/// report has its number. Without memory, or where `id` or `rule` is wrong, both stay.
 #[unsafe(no_mangle)]
 pub extern "C" fn dvdecc_read_block(
     alloc: Global,
@@ -57,7 +66,8 @@ pub extern "C" fn dvdecc_read_block(
 }
 
 /// Writes the sectors of a captured block whose data frames can be known to be right, and zeros for the others. `id`
-/// names the first frame. A byte of `saved` is 1 where the frame is salvaged, else 0.
+/// names the first frame. A byte of `saved` is 1 where the frame is salvaged, else 0: a sector of zeros may be one that
+/// was saved, so a count wouldn't say which. Where none is saved the status is OK too.
 #[unsafe(no_mangle)]
 pub extern "C" fn dvdecc_salvage_block(
     alloc: Global,
@@ -86,12 +96,18 @@ pub extern "C" fn dvdecc_salvage_block(
     status::OK
 }
 
-// The entry of a plan whose frames these are, or the status of what is wrong. Of its content only the rule counts.
+// The entry of a plan whose frames these are, or the status of what is wrong: the rule first, then the number. A place
+// is area, layer and sector number. So only these are kept of `id`, and frames are compared with it in these alone.
+// Frame f has to have the first number plus f. The first is a multiple of 16 on a disk, but nothing here rests on it:
+// with another number no block of a disk is right. Of the content only the rule counts, so `Zero` is as good as an
+// image. No status of it is NO_MEMORY, so that this says one thing.
 fn plan_of(id: u32, rule: u32) -> Result<BlockPlan, u32>
     ensures asked { result ≡ asked_block id rule }
     ensures numbers { HasAsked result }
 {
-    // A block has one of two rules: all of its frames are scrambled, or the first 160 bytes of the first frame alone.
+    // The numbers are those of `dvdecc_rule` in include/dvdecc.h: 0 scrambles all of Main Data, 1 none, 2 the first 160
+    // bytes. The first frame of a block has 0, and then all sixteen have it; or it has 2, in the Reference Code Zone,
+    // and then the other fifteen have 1. No block begins with 1.
     let content = match rule {
         0 => Content::Zero,
         2 => Content::Reference,
@@ -109,7 +125,7 @@ fn plan_of(id: u32, rule: u32) -> Result<BlockPlan, u32>
     })
 }
 
-// Reads a block that was received.
+// Reads a block that was received: two passes, then the checks of its frames.
 fn read_received(
     work: &mut Work,
     plan: &BlockPlan,
@@ -132,7 +148,8 @@ fn read_received(
     }
 }
 
-// Salvages a block that was received.
+// Salvages a block that was received. Sectors and `saved` are all written, whatever they held. The status is OK
+// whatever is salvaged, so it isn't answered here.
 fn salvage_received(
     work: &mut Work,
     plan: &BlockPlan,
@@ -144,7 +161,8 @@ fn salvage_received(
     ensures sectors { sectors.new ≡ block_out (rows_of work.old) (marks_of_work work.old) plan.now }
     ensures saved { saved.new ≡ saved_frames (rows_of work.old) (marks_of_work work.old) plan.now }
 {
-    // Where two passes refuse the block, the rows' answers are there all the same.
+    // A cause is dropped: `salvage_frame` reads the block where two passes found one, and else the rows' answers, which
+    // are in `work` all the same.
     let _found = two_pass(work);
     salvage_each(work, plan, sectors, saved);
 }

@@ -1,5 +1,8 @@
 //! CD-ROM sectors of Mode 1 (ECMA-130, 14). An address is tested first: two digits of the header have its minute, so
-//! there is none beyond 99.
+//! there is none beyond 99. It counts from 0; a minute has 60 seconds of 75 sectors. A word is a P word, 0 to 85, or a
+//! Q word, 86 to 137. An address that is reported isn't counted so: it is the three bytes of the header as they were
+//! read, the minute highest. In the clauses 4 is the status BAD_ADDRESS, and `answered` is what status and number say,
+//! as the answer of the crate below.
 ghost use Rattle.std.specs.Prelude.{◌≡◌, ◌<◌, ◌≤◌, ◌≢◌, drop};
 ghost use Rattle.coding.specs.Distance.{distance};
 ghost use Rattle.cd_sector.specs.Repair.{repaired};
@@ -27,7 +30,9 @@ pub extern "C" fn dvdecc_cd_make(address: u32, user: &[u8; 2048], sector: &mut [
     status::OK
 }
 
-/// Tests a sector that was read. Where something is wrong, `number` is the word, the mode or the address that is.
+/// Tests a sector that was read. Where something is wrong, `number` is the word, the mode or the address that is. The
+/// first thing that is wrong counts, in this order, and a wrong EDC last. The sector stays. The sync isn't tested, and
+/// the EDC is as if the right one were there.
 #[unsafe(no_mangle)]
 pub extern "C" fn dvdecc_cd_check(sector: &[u8; 2352], address: u32, number: &mut u32) -> u32
     ensures refused { 450000 ≤ address → result ≡ 4 }
@@ -43,8 +48,9 @@ pub extern "C" fn dvdecc_cd_check(sector: &[u8; 2352], address: u32, number: &mu
     }
 }
 
-/// Repairs a sector that was read. Where it is right then, `number` is how many bytes after the sync changed. Else the
-/// sector is as it was, and `number` is the word, the mode or the address that is still wrong.
+/// Repairs a sector that was read: by its P and Q parity, and its sync is set. Where it is right then, `number` is how
+/// many bytes after the sync changed. Else the sector is as it was, and `number` is the word, the mode or the address
+/// that is still wrong. The sync isn't counted, since no parity is over it.
 #[unsafe(no_mangle)]
 pub extern "C" fn dvdecc_cd_repair(sector: &mut [u8; 2352], address: u32, number: &mut u32) -> u32
     ensures refused { 450000 ≤ address → result ≡ 4 }
@@ -66,7 +72,8 @@ pub extern "C" fn dvdecc_cd_repair(sector: &mut [u8; 2352], address: u32, number
     }
 }
 
-// The status of a cause, and its number where it has one. A wrong EDC has no number, and leaves the caller's.
+// The status of a cause, and its number where it has one. A wrong EDC has no number, and leaves the caller's. Both
+// calls answer by it, so that a cause has one status.
 fn told(cause: CdCause, number: &mut u32) -> u32
     ensures told { answered result number.new ≡ Some (Some cause) }
     ensures number { number.new ≡ with_number result number.new number.old }

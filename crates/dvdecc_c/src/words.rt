@@ -1,5 +1,8 @@
 //! Rows and columns of a block (ECMA-267, 18): their parity, whether they are codewords, and their decoding. Lost
 //! places are bytes, 0 where a place isn't lost, since C may write any byte.
+//!
+//! A row is 182 bytes with 10 of parity, a column 208 with 16. With e errors and s lost places a codeword is near where
+//! 2e + s is at most the number of parity bytes. The exports are public, since C finds them by their names.
 ghost use Rattle.std.specs.Prelude.{◌≡◌, ◌<◌, ◌≤◌, ◌↔◌, IsTrue, take, unwrap_or};
 ghost use Rattle.coding.specs.Words.{IsCodeword, IsEncoded};
 ghost use Rattle.coding.specs.Nearest.{near_of};
@@ -9,7 +12,8 @@ use crate::status;
 use rs_code::{Code, Pi, Po};
 use rs_decode::decode;
 
-/// What the decoding of a word corrected. C sees its fields in this order, as include/dvdecc.h declares them.
+/// What the decoding of a word corrected. C sees its fields in this order, as include/dvdecc.h declares them. It is
+/// written only where a codeword is near.
 #[repr(C)]
 #[derive(Clone, Copy)]
 pub struct Correction {
@@ -19,7 +23,8 @@ pub struct Correction {
     pub erasures: u32,
 }
 
-/// Sets the last 10 bytes of a row so that it is a codeword.
+/// Sets the last 10 bytes of a row so that it is a codeword. The first 172 stay. Each message has a codeword, so there
+/// is no status.
 #[unsafe(no_mangle)]
 pub extern "C" fn dvdecc_row_parity(row: &mut [u8; 182])
     ensures { IsEncoded 182 10 (take 172 row.old) row.new }
@@ -51,7 +56,7 @@ pub extern "C" fn dvdecc_row_decode(
     decode_word::<182, 10>(row, lost, correction)
 }
 
-/// Sets the last 16 bytes of a column so that it is a codeword.
+/// Sets the last 16 bytes of a column so that it is a codeword. The first 192 stay.
 #[unsafe(no_mangle)]
 pub extern "C" fn dvdecc_column_parity(column: &mut [u8; 208])
     ensures { IsEncoded 208 16 (take 192 column.old) column.new }
@@ -83,8 +88,10 @@ pub extern "C" fn dvdecc_column_decode(
     decode_word::<208, 16>(column, lost, correction)
 }
 
-// Sets a word to the codeword near it. The lengths of a code are parameters of its type. Where none is near, word and
-// correction stay.
+// Sets a word to the codeword near it. The lengths of a code are parameters of its type: N bytes in all, R of them
+// parity. Where none is near, word and correction stay, as `decode` itself leaves the word. `general` calls it too, for
+// words of 255 bytes. The clauses `requires` are those of `decode`, and hold for each code that there is. The code is
+// made anew by each call, as C has no object to keep it in.
 pub(crate) fn decode_word<const N: usize, const R: usize>(
     word: &mut [u8; N],
     lost: &[u8; N],
@@ -110,7 +117,8 @@ pub(crate) fn decode_word<const N: usize, const R: usize>(
     }
 }
 
-// The marks of a word. A byte that is neither 0 nor 1 is no `bool`, so each but 0 marks its place.
+// The marks of a word. A byte that is neither 0 nor 1 is no `bool`, so each but 0 marks its place. They are made anew,
+// since the caller's bytes can't be taken for marks.
 fn marks_of<const N: usize>(lost: &[u8; N]) -> [bool; N]
     ensures { result ≡ lost_marks lost.now }
 {

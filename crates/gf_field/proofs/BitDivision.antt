@@ -1,4 +1,5 @@
--- Division of polynomials over two bits: how many bits a sum has, two sums as one, and the steps of a division in two parts.
+-- Division of polynomials over two bits: how many bits a sum has, two sums as one, and the steps of a division in two
+-- parts.
 use Rattle.std.proofs.Common.{◌≡◌, ℕ, zero, suc, ◌+◌, ◌≤◌, List, [], ◌∷◌, length, cond, eqb, refl, sym, ◌∙◌, ap, ap₂, zero-add, arith}
 use Rattle.std.specs.Int.Bits.{xor_assoc}
 use Rattle.coding.specs.BitDivision.{plus_front, remainder_by}

@@ -1,4 +1,5 @@
--- Why the contracts hold: lemmas on the field of 256 elements, its words and their codes, and on division of lists of bits.
+-- Why the contracts hold: lemmas on the field of 256 elements, its words and their codes, and on division of lists of
+-- bits.
 pub mod BitDivision
 pub mod Tables
 pub mod FieldLaws

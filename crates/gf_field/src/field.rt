@@ -1,6 +1,7 @@
 //! Sums of elements of the field of 256, with x^8 + x^4 + x^3 + x^2 + 1, and products, quotients, inverses and powers
 //! by logarithms: to multiply is to add exponents of alpha. 0 has no logarithm, so it is treated apart, or a contract
-//! refuses it.
+//! refuses it. Each function can be inlined into other crates, whose loops call them for each byte. `using` in a
+//! `tactic` names the facts on the two tables that a proof needs.
 ghost use Rattle.std.specs.Prelude.{◌≡◌, ◌≢◌, ◌<◌};
 ghost use Rattle.coding.specs.Field.{alpha, plus, product, power};
 
@@ -9,7 +10,7 @@ use crate::powers::{LOGARITHMS, POWERS};
 /// The number of different powers of alpha: alpha^255 is 01.
 const ORDER: u32 = 255;
 
-/// The sum of two elements, which is their difference too.
+/// The sum of two elements, which is their difference too. Only tests call it: all others write `^`, which is the same.
 #[inline]
 pub fn add(a: u8, b: u8) -> u8
     ensures { result ≡ plus a b }
@@ -17,7 +18,7 @@ pub fn add(a: u8, b: u8) -> u8
     a ^ b
 }
 
-/// The product of two elements.
+/// The product of two elements. Two exponents are at most 508 together, which is a place of the table of powers.
 #[inline]
 #[tactic(auto, using(crate::proofs::Logarithms::products))]
 pub fn mul(a: u8, b: u8) -> u8
@@ -53,7 +54,7 @@ pub fn div(a: u8, b: u8) -> u8
     power_at(exponent(a) + 255 - exponent(b))
 }
 
-/// The element alpha = 02 to the power k. Any k is allowed: the powers repeat after 255.
+/// The element alpha = 02 to the power k. Any k is allowed, as a sum of many logarithms: the powers repeat after 255.
 #[inline]
 #[tactic(auto, using(crate::proofs::Logarithms::exponents))]
 pub fn alpha_pow(k: u32) -> u8
@@ -62,7 +63,8 @@ pub fn alpha_pow(k: u32) -> u8
     power_at((k % ORDER) as usize)
 }
 
-/// The logarithm of an element that isn't 0: the k below 255 with alpha^k = a.
+/// The logarithm of an element that isn't 0: the k below 255 with alpha^k = a. It is `exponent` as a byte, for callers
+/// that store it or add it in a type of their own.
 #[inline]
 pub fn log(a: u8) -> u8
     requires { a ≢ 0 }

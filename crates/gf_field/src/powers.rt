@@ -1,5 +1,5 @@
 //! The tables of powers of alpha and of logarithms, from which products, quotients and inverses are read.
-//! The definitions use shifts alone: the checker computes from them that each entry is right.
+//! The definitions use shifts alone: the checker computes from them that each entry is right, so none can be wrong.
 
 /// alpha^k at place k. There are 510 entries since a place is the sum of two logarithms, or of one and 255. A logarithm
 /// is at most 254, so no place is above 509.
@@ -39,7 +39,7 @@ pub static POWERS: [u8; 510] = [
     0x58, 0xB0, 0x7D, 0xFA, 0xE9, 0xCF, 0x83, 0x1B, 0x36, 0x6C, 0xD8, 0xAD, 0x47, 0x8E,
 ];
 
-/// The logarithm of a at place a. Place 0 has none: no call reads its number.
+/// The logarithm of a at place a. Place 0 has none: no call reads its number, which means nothing.
 pub static LOGARITHMS: [u8; 256] = [
     0x00, 0x00, 0x01, 0x19, 0x02, 0x32, 0x1A, 0xC6, 0x03, 0xDF, 0x33, 0xEE, 0x1B, 0x68, 0xC7, 0x4B,
     0x04, 0x64, 0xE0, 0x0E, 0x34, 0x8D, 0xEF, 0x81, 0x1C, 0xC1, 0x69, 0xF8, 0xC8, 0x08, 0x4C, 0x71,

@@ -1,4 +1,5 @@
--- Two codewords that differ in at most r places are equal, since their sum is a codeword with as few bytes that aren't 0.
+-- Two codewords that differ in at most r places are equal, since their sum is a codeword with as few bytes that aren't
+-- 0.
 use Rattle.std.proofs.Common.{◌≡◌, ℕ, ◌+◌, ◌≤◌, List, [], ◌∷◌, length, All, replicate, refl, sym, ap, ◌∙◌, arith, inl, inr, ◌==◌, if◌then◌else◌}
 use Rattle.std.proofs.lemmas.Bool.{cases_eq}
 use Rattle.std.proofs.lemmas.List.Elements.{All-head, All-tail, All-cons, All-nil}

@@ -36,8 +36,8 @@ all_words [] all factor = omega arith
 all_words (entry ∷ table) all zero = ltb-true entry (2 ^ 128) (and_parts (nat_lt entry (2 ^ 128)) (list_all (λ e. nat_lt e (2 ^ 128)) table) all).0
 all_words (entry ∷ table) all (suc factor) = all_words table (and_parts (nat_lt entry (2 ^ 128)) (list_all (λ e. nat_lt e (2 ^ 128)) table) all).1 factor
 
--- what the checker computes of a code: its generator multiplied out, each entry of the first table the generator times its
--- factor, in 128 bits, and the entries of each further table those of the one before a byte later
+-- what the checker computes of a code: its generator multiplied out, each entry of the first table the generator times
+-- its factor, in 128 bits, and the entries of each further table those of the one before a byte later
 record AreComputed (r : ℕ) (generator : List ℕ) (tables : List (List ℕ)) : Type 0 where
   multiplied : generator_of r ≡ generator
   rows : map (register_bytes 16) (table_at tables 0) ≡ map (multiple_at generator) (range_with_len 0 256)

@@ -66,7 +66,8 @@ IsRemainder-next generator read first rest byte is_byte before =
           (turned (value read x) byte first (value rest x) (power x (length rest)) x ∙ ap (λ v. product v x) was ∙ zero-product x);
     }
 
--- a register whose bytes are each the next one plus the factor's share of the generator is the remainder with one byte more
+-- a register whose bytes are each the next one plus the factor's share of the generator is the remainder with one byte
+-- more
 pub IsRemainder-from_places : (generator read register after : List ℕ) (byte : ℕ)
     → byte < 256
     → 0 < length register

@@ -1,4 +1,6 @@
-//! Codes of constant length.
+//! Codes of constant length. A word is a polynomial, its first byte the coefficient of the highest power. The codewords
+//! are the multiples of the generator, whose roots are alpha^0 to alpha^(R-1): so a codeword is 0 at each of these.
+//! The lengths are in the type, so that loops and choices by them are settled before the program runs.
 ghost use Rattle.std.specs.Prelude.{◌≡◌, ◌↔◌, ℕ, ◌+◌, ◌-◌, ◌++◌, ◌<◌, ◌≤◌, take, length, All, IsTrue};
 ghost use Rattle.arrayvec.specs.ArrayVec.{array_vec_len};
 ghost use Rattle.coding.specs.Field.{alpha, power};
@@ -25,14 +27,17 @@ pub struct Code<const N: usize, const R: usize> {
     /// The generator polynomial without its leading 1, the highest power first. Codes with 10 or 16 parity bytes divide
     /// by tables and don't use it.
     generator: ArrayVec<u8, 32>,
-    /// A word has 1 to 32 parity bytes, at least one byte more, and at most 255 in all.
+    /// A word has 1 to 32 parity bytes, at least one byte more, and at most 255 in all. It is public, as the proofs of
+    /// decoders need it; the other two are for this crate.
     pub ghost bounds: { (1 ≤ R) × (R < N) × (N ≤ 255) × (R ≤ 32) },
     ghost degree: { array_vec_len generator ≡ R },
     ghost roots: { HasRoots R generator.items },
 }
 
 impl<const N: usize, const R: usize> Code<N, R> {
-    /// The code for these lengths.
+    /// The code for these lengths. 255 places are as many as alpha has different powers. 32 parity bytes are as many as
+    /// the lists of generators and syndromes hold: a choice, as a disk has codes with 16 at most. It has no `ensures`:
+    /// the ghost fields say what each code is.
     pub fn new() -> Self
         requires some_parity { 1 ≤ R }
         requires some_message { R < N }
@@ -54,7 +59,7 @@ impl<const N: usize, const R: usize> Code<N, R> {
     }
 
     /// The values of `word` at alpha^0 to alpha^(R-1), in this order. They are those of its remainder, which has the
-    /// same values and is shorter.
+    /// same values and is shorter. There are R, in a list with room for 32.
     pub fn syndromes(&self, word: &[u8; N]) -> ArrayVec<u8, 32>
         ensures { result.items ≡ syndromes_of R word.now }
     {
@@ -70,6 +75,7 @@ impl<const N: usize, const R: usize> Code<N, R> {
 
     /// The remainder of `word` by the generator polynomial: `R` bytes that have the word's values at alpha^0 to
     /// alpha^(R-1). They are zeros where the word is a codeword. Also ensures that the elements of `word` are bytes.
+    /// It is public for decoders that find these values of the remainder by vectors.
     pub fn remainder(&self, word: &[u8; N]) -> [u8; R]
         ensures values { (k : ℕ) → k < R → value result (power alpha k) ≡ value word.now (power alpha k) }
         ensures bytes { All IsByte result }
@@ -84,7 +90,8 @@ impl<const N: usize, const R: usize> Code<N, R> {
     }
 
     // Sets `parity` so that it makes a codeword with `message`: by tables for the codes of an ECC block, else by the
-    // generator. Also ensures that the elements of `message` are bytes.
+    // generator. It is the remainder of the message, moved up by `R` places. What `parity` had isn't read. Also ensures
+    // that the elements of `message` are bytes.
     fn divide(&self, message: &[u8], parity: &mut [u8])
         requires fits { length parity.old ≡ R }
         ensures codeword { IsCodeword (length message.now + R) R (message.now ++ parity.new) }

@@ -1,4 +1,5 @@
-//! The generator polynomial, and the division by it.
+//! The generator polynomial, and the division by it, for codes with any number of parity bytes up to 32. `register` is
+//! faster, and has tables for two codes alone.
 //! A polynomial with the leading coefficient 1 is stored without it.
 ghost use Rattle.std.specs.Prelude.{◌≡◌, ℕ, ◌-◌, ◌<◌, ◌≤◌, List, [], ◌∷◌, ◌++◌, length, All};
 ghost use Rattle.arrayvec.specs.ArrayVec.{array_vec_len};
@@ -9,14 +10,16 @@ ghost use Rattle.rs_code.specs.Inner.Polynomials.{sum_of, times_root, IsRemainde
 use arrayvec::ArrayVec;
 use gf_field::mul;
 
-// The generators of the codes of an ECC block are constants, since callers may make a code for each word.
+// The generators of the codes of an ECC block are constants, since callers may make a code for each word. A clause of
+// `generator` says that they have their roots, so none of their bytes can be wrong.
 static PI_GENERATOR: [u8; 10] = [0xD8, 0xC2, 0x9F, 0x6F, 0xC7, 0x5E, 0x5F, 0x71, 0x9D, 0xC1];
 
 static PO_GENERATOR: [u8; 16] = [
     0x3B, 0x0D, 0x68, 0xBD, 0x44, 0xD1, 0x1E, 0x08, 0xA3, 0x41, 0x29, 0xE5, 0x62, 0x32, 0x24, 0x3B,
 ];
 
-/// The product of (x + alpha^k) for k from 0 to `parity` - 1, without its leading 1.
+/// The product of (x + alpha^k) for k from 0 to `parity` - 1, without its leading 1. The list has room for 32, so that
+/// ten and sixteen always fit.
 pub fn generator(parity: u8) -> ArrayVec<u8, 32>
     requires { parity ≤ 32 }
     ensures degree { array_vec_len result ≡ parity }
@@ -29,7 +32,8 @@ pub fn generator(parity: u8) -> ArrayVec<u8, 32>
     }
 }
 
-// The same product, computed factor by factor.
+// The same product, computed factor by factor: those by alpha^0, alpha^1 and so on, where alpha is 2. A polynomial 1
+// has no stored coefficient, so it begins with none.
 fn product_of_factors(parity: u8) -> ArrayVec<u8, 32>
     requires { parity ≤ 32 }
     ensures degree { array_vec_len result ≡ parity }
@@ -45,7 +49,8 @@ fn product_of_factors(parity: u8) -> ArrayVec<u8, 32>
     coefficients
 }
 
-/// Multiplies a polynomial by (x + `root`). A 0 comes after it, since the product has one coefficient more.
+/// Multiplies a polynomial by (x + `root`), in place. A 0 comes after it, since the product has one coefficient more.
+/// Each coefficient becomes itself plus the root times the one before it, which is kept, as it has been overwritten.
 fn multiply_by_root(coefficients: &mut [u8], root: u8)
     ensures { (polynomial : List ℕ) → coefficients.old ≡ polynomial ++ 0 ∷ [] → coefficients.new ≡ times_root polynomial root }
 {
@@ -58,9 +63,9 @@ fn multiply_by_root(coefficients: &mut [u8], root: u8)
     }
 }
 
-/// Sets `register` to the remainder of `message` by the generator, which is its parity. Also ensures that the elements
-/// of `message` are bytes. In this field a sum is a difference too: the message, followed by its remainder, is a
-/// multiple of the generator.
+/// Sets `register` to the remainder of `message` by the generator, which is its parity. What it had isn't read. Also
+/// ensures that the elements of `message` are bytes. In this field a sum is a difference too: the message, followed by
+/// its remainder, is a multiple of the generator.
 pub fn divide(generator: &[u8], message: &[u8], register: &mut [u8])
     requires some_degree { 0 < length generator.now }
     requires fits { length register.old ≡ length generator.now }
@@ -74,7 +79,8 @@ pub fn divide(generator: &[u8], message: &[u8], register: &mut [u8])
 }
 
 /// One step of the division: reads one more byte. The sum of the byte and the one that leaves the register is the
-/// leading coefficient. The multiple of the generator that has the same one is added, which cancels it.
+/// leading coefficient. The multiple of the generator that has the same one is added, which cancels it. Upwards, so
+/// that each byte is read before it is overwritten.
 fn read_byte(generator: &[u8], register: &mut [u8], byte: u8)
     requires some_degree { 0 < length generator.now }
     requires fits { length register.old ≡ length generator.now }
@@ -88,7 +94,8 @@ fn read_byte(generator: &[u8], register: &mut [u8], byte: u8)
     register[last] = mul(factor, generator[last]);
 }
 
-/// Adds `word` to another of the same length. Also ensures that its elements are bytes.
+/// Adds `word` to another of the same length. Also ensures that its elements are bytes. It is public for `code`, which
+/// adds the last bytes of a word to the remainder of the others.
 pub fn add_word(sum: &mut [u8], word: &[u8])
     requires { length word.now ≡ length sum.old }
     ensures sum { sum.new ≡ sum_of sum.old word.now }

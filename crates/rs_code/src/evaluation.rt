@@ -1,4 +1,6 @@
-//! The values of a word at points.
+//! The values of a word at points: at powers of alpha, which are given by their exponents. The first byte of a word is
+//! the coefficient of its highest power. A word is the remainder of a longer one here, so it has as many bytes as a
+//! code has parity bytes.
 ghost use Rattle.std.specs.Prelude.{◌≡◌, ◌↔◌, ◌<◌, ◌≤◌, length, replicate, IsTrue};
 ghost use Rattle.coding.specs.Field.{alpha, power};
 ghost use Rattle.coding.specs.Words.{value};
@@ -7,7 +9,7 @@ ghost use Rattle.rs_code.specs.Syndromes.{syndromes_of};
 use arrayvec::ArrayVec;
 use gf_field::{alpha_pow, log};
 
-/// The values of a word at alpha^0 to alpha^(`parity` - 1), in this order.
+/// The values of a word at alpha^0 to alpha^(`parity` - 1), in this order: its syndromes, for a code of `parity` roots.
 pub fn syndromes(word: &[u8], parity: usize) -> ArrayVec<u8, 32>
     requires few { length word.now ≤ 32 }
     requires parity { parity ≤ 32 }
@@ -34,7 +36,8 @@ pub fn is_zero(word: &[u8]) -> bool
 
 /// The value of a word of at most 33 bytes at alpha to a power below 255, term by term. A term's logarithm is that of
 /// its byte plus a multiple of the exponent, so that no term depends on another. Logarithms and multiples are summed up
-/// in 32 bits: with so few bytes no sum is too great.
+/// in 32 bits: with so few bytes no sum is too great. `syndromes` has 32 at most; 33, the coefficients of a polynomial
+/// of degree 32, is arbitrary, and many more would do. It is public, but no other crate calls it.
 pub fn value_at(word: &[u8], exponent: u32) -> u8
     requires few { length word.now ≤ 33 }
     requires below { exponent < 255 }
@@ -42,6 +45,7 @@ pub fn value_at(word: &[u8], exponent: u32) -> u8
 {
     let mut sum = 0;
     let mut shift = 0;
+    // From the last byte on, whose exponent is 0. A byte 0 has no logarithm and adds nothing.
     for k in (0..word.len()).rev() {
         if word[k] != 0 {
             sum ^= alpha_pow(log(word[k]) as u32 + shift);

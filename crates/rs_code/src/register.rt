@@ -1,7 +1,10 @@
 //! Division by a generator of at most sixteen coefficients: the remainder is one number of 128 bits, its first byte
-//! highest. A byte is read by one look-up, of the generator times the sum of that byte and the one that leaves the
-//! register. Four bytes are read by four look-ups at once. The remainder is at the upper end whatever its length is, so
-//! that the byte that leaves is always the highest one.
+//! highest. It is called the register. A byte is read by one look-up, of the generator times the sum of that byte and
+//! the one that leaves the register. Four bytes are read by four look-ups at once. The remainder is at the upper end
+//! whatever its length is, so that the byte that leaves is always the highest one. In contracts `after_bytes` is the
+//! register once bytes are read too, one by one. So a step of four is right where it leaves the same, whatever follows.
+//! `inline` lets other crates, which make codes of known lengths, have it all in their own code; no proof rests on
+//! that. `tactic` says to the prover which definitions a proof needs.
 ghost use Rattle.std.specs.Prelude.{◌≡◌, ℕ, ◌<◌, ◌≤◌, List, [], ◌∷◌, ◌++◌, length, slice_index_or, take, All};
 ghost use Rattle.std.specs.List.{concat};
 ghost use Rattle.coding.specs.Words.{IsByte};
@@ -9,7 +12,9 @@ ghost use Rattle.rs_code.specs.Inner.Polynomials.{IsRemainder};
 ghost use Rattle.rs_code.specs.Inner.Registers.{AreTables, after_bytes, register_bytes};
 
 /// Sets `parity` to the remainder of `message` by the generator whose tables these are. Also ensures that the elements
-/// of `message` are bytes. The messages of both codes of a block, 172 and 192 bytes, are whole words of four.
+/// of `message` are bytes. The messages of both codes of a block, 172 and 192 bytes, are whole words of four. Others
+/// may have up to three bytes more, which are read one by one. What `parity` had isn't read. `some_parity` is for the
+/// proof: the code would do for none too. Sixteen bytes are what 128 bits hold.
 #[inline]
 pub fn divide(tables: &[[u128; 256]; 4], message: &[u8], parity: &mut [u8])
     requires some_parity { 0 < length parity.old }
@@ -24,7 +29,7 @@ pub fn divide(tables: &[[u128; 256]; 4], message: &[u8], parity: &mut [u8])
     );
 }
 
-/// Writes the first `parity.len()` bytes of a register.
+/// Writes the first `parity.len()` bytes of a register, which are all that a remainder of this length has.
 #[inline]
 fn put_register(register: u128, parity: &mut [u8])
     requires { length parity.old ≤ 16 }
@@ -34,7 +39,8 @@ fn put_register(register: u128, parity: &mut [u8])
     parity.copy_from_slice(&register.to_be_bytes()[..size]);
 }
 
-/// The register after these words of four bytes.
+/// The register after these words of four bytes. What is said of it is what the bytes after them come to, so that one
+/// step follows another in a proof.
 #[inline]
 fn with_words(tables: &[[u128; 256]; 4], register: u128, words: &[[u8; 4]]) -> u128
     ensures { (generator : List ℕ) → AreTables generator tables.now → (rest : List ℕ)
@@ -47,7 +53,7 @@ fn with_words(tables: &[[u128; 256]; 4], register: u128, words: &[[u8; 4]]) -> u
     next
 }
 
-/// The register after these bytes.
+/// The register after these bytes, of which the table of single bytes is enough.
 #[inline]
 fn with_bytes(tables: &[[u128; 256]; 4], register: u128, bytes: &[u8]) -> u128
     ensures { (rest : List ℕ) → after_bytes (slice_index_or tables.now 0 []) result rest ≡ after_bytes (slice_index_or tables.now 0 []) register (bytes.now ++ rest) }
@@ -60,7 +66,8 @@ fn with_bytes(tables: &[[u128; 256]; 4], register: u128, bytes: &[u8]) -> u128
 }
 
 /// Four steps of the division in one. No look-up depends on another. The first of the four goes through three more
-/// steps than the last, so each has a table of its own.
+/// steps than the last, so each has a table of its own. Their sum is added to what the register has after its four
+/// upper bytes left.
 #[inline]
 fn with_word(tables: &[[u128; 256]; 4], register: u128, word: [u8; 4]) -> u128
     ensures { (generator : List ℕ) → AreTables generator tables.now → (rest : List ℕ)

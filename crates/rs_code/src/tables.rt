@@ -1,4 +1,5 @@
-//! The multiples of the generators of the two codes of an ECC block, as registers.
+//! The multiples of the generators of the two codes of an ECC block, as registers: numbers of 128 bits whose first byte
+//! is highest, with zeros after the ten bytes of the shorter one. That all are right is proved by computing them.
 //! A multiple is linear in its factor: it is the sum of those by the powers of two that make up the factor. So the
 //! eight numbers at 1, 2, 4, .. 128 span a table.
 

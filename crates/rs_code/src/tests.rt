@@ -6,6 +6,8 @@ use crate::{Code, Ied, Pi, Po};
 use sha2::{Digest, Sha256};
 
 /// Drawn bytes: each is the top eight bits of a state of 64 bits, to which three shifts of itself were added.
+/// With shifts by 13, 7 and 17 all states but 0 come before one comes again; the first is any of them. The other
+/// program draws the same.
 #[derive(Drop)]
 struct Drawn {
     state: u64,

@@ -22,8 +22,8 @@ connection-first taps seq n zeros =
     (λ i above within. ap (λ x. product x (get_or seq (n - i) 0)) (zeros i above) ∙ zero-product (get_or seq (n - i) 0))
     ∙ ap (λ k. product (get_or taps 0 0) (get_or seq k 0)) here
 
--- Lane k is the connection k places after n, where the list has such a place. Of taps that reach further back than the list
--- begins, those count that don't.
+-- Lane k is the connection k places after n, where the list has such a place. Of taps that reach further back than the
+-- list begins, those count that don't.
 abbrev pub HasConnections : ℕ → List ℕ → List ℕ → List ℕ → Type 0
 HasConnections n taps seq lanes = (k : ℕ) → n + k < length seq → get_or lanes k 0 ≡ connection (n + k) taps seq (n + k)
 

@@ -82,9 +82,9 @@ swapped a b s = ap (λ x. product x s) (product-comm a b) ∙ product-assoc b a 
 abbrev pub Makes : ℕ → List ℕ → List ℕ → ℕ → Type 0
 Makes len taps seq n = (k : ℕ) → len ≤ k → k < n → connection len taps seq k ≡ 0
 
--- Massey's lemma. Where two registers of lengths that together are at most n generate a list up to place n, and one of them
--- generates the number at n too, the other does: the table of the products of a tap of each and a number has the sum 0 by
--- its rows, and its columns are 0 but for the first, which is the connection at n.
+-- Massey's lemma. Where two registers of lengths that together are at most n generate a list up to place n, and one of
+-- them generates the number at n too, the other does: the table of the products of a tap of each and a number has the
+-- sum 0 by its rows, and its columns are 0 but for the first, which is the connection at n.
 pub connections-agree : (len other n : ℕ) (taps others seq : List ℕ) → len + other ≤ n → get_or others 0 0 ≡ 1 → Makes len taps seq n
     → Makes other others seq (n + 1) → connection len taps seq n ≡ 0
 connections-agree len other n taps others seq short first makes others_make =

@@ -1,5 +1,6 @@
--- The locator, a shortest register that generates the sums, finds every error: where a codeword is near, it agrees with the
--- received word at each place that is neither marked nor a zero of the locator, and these are few enough to be filled.
+-- The locator, a shortest register that generates the sums, finds every error: where a codeword is near, it agrees with
+-- the received word at each place that is neither marked nor a zero of the locator, and these are few enough to be
+-- filled.
 use Rattle.std.proofs.Common.{◌≡◌, ◌≢◌, ℕ, zero, suc, ◌+◌, ◌*◌, ◌<◌, ◌≤◌, Bool, true, false, ◌||◌, List, [], ◌∷◌, length, get_or, All, replicate, refl, sym, ap, subst, ◌∙◌, arith, inl, inr, ◌==◌, if◌then◌else◌}
 use Rattle.std.proofs.lemmas.List.{get_or-replicate}
 use Rattle.std.proofs.lemmas.Bool.{false≢true}

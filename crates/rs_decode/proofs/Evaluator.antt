@@ -1,4 +1,5 @@
--- Forney's formula: at each point the evaluator's value is the byte times the slope of the locator there, its derivative.
+-- Forney's formula: at each point the evaluator's value is the byte times the slope of the locator there, its
+-- derivative.
 use Rattle.std.proofs.Common.{◌≡◌, ◌≢◌, ℕ, zero, suc, ◌+◌, ◌-◌, ◌<◌, ◌≤◌, List, [], ◌∷◌, ◌++◌, length, take, drop, get_or, get_or-take, length-take-le, All, refl, sym, ap, subst, ◌∙◌, arith, add-one, inl, inr, w8, Fits}
 use Rattle.std.proofs.lemmas.List.{length-drop, get_or-drop, take_more}
 use Rattle.std.proofs.lemmas.List.Elements.{All-from_get_or, All-get_or}
@@ -25,8 +26,8 @@ lanes-bytes lanes each = All-from_get_or IsByte lanes 0 (λ k inside. (Each1-get
 one_coefficient : (x a v l m : ℕ) → plus (product x (plus (product (plus x a) v) l)) (plus m (product a l)) ≡ plus (product (plus x a) (plus (product x v) l)) m
 one_coefficient x a v l m = simp ring
 
--- Lanes of which each has a times the one before added: with one coefficient more, they are the polynomial times (x + a), and
--- the coefficient that comes after it.
+-- Lanes of which each has a times the one before added: with one coefficient more, they are the polynomial times (x +
+-- a), and the coefficient that comes after it.
 pub value-times_distance : (lanes next : List ℕ) (a x n : ℕ) → n < 32 → length lanes ≡ 32 → length next ≡ 32 → All IsByte lanes → All IsByte next
     → get_or next 0 0 ≡ get_or lanes 0 0 → ((k : ℕ) → k < 31 → get_or next (k + 1) 0 ≡ plus (get_or lanes (k + 1) 0) (product a (get_or lanes k 0)))
     → value (take (n + 1) next) x ≡ plus (product (plus x a) (value (take n lanes) x)) (get_or lanes n 0)
@@ -170,8 +171,8 @@ power_sum-combined c f g (byte ∷ bytes) (point ∷ points) k =
 
 -- ---- the evaluator
 
--- With the first points taken in, the first lanes are the sum of the bytes, each times the slope between its point and x.
--- The others are the sums with these points taken out.
+-- With the first points taken in, the first lanes are the sum of the bytes, each times the slope between its point and
+-- x. The others are the sums with these points taken out.
 pub record IsEvaluated (points bytes : List ℕ) (n p : ℕ) (lanes : List ℕ) : Type 0 where
   pub values : (x : ℕ) → value (take p lanes) x ≡ power_sum (at_points (slope (take p points) x) bytes points) points 0
   pub left : AreSums points (at_points (distances (take p points)) bytes points) (take (n - p) (drop p lanes))

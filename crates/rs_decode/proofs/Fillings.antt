@@ -154,7 +154,8 @@ AreSums-lacking n r word filling syndromes points marks size marks_size points_a
           sym (plus-zero_same (value word x) (power_sum bytes points k) vanishes) ∙ sym (get_or-syndromes_of r word k below) ∙ ap (λ xs. get_or xs k 0) (sym syndromes_are);
     }
 
--- if the word isn't a codeword with the only bytes that can have its syndromes as sums, no codeword agrees at all unmarked places
+-- if the word isn't a codeword with the only bytes that can have its syndromes as sums, no codeword agrees at all
+-- unmarked places
 pub no_filling : (n r : ℕ) (word syndromes points found : List ℕ) (marks : List Bool) → length word ≡ n → length marks ≡ n → All IsByte word
     → points ≡ picked marks (points_of (length marks)) → syndromes ≡ syndromes_of r word → AreOnly points syndromes found
     → (IsCodeword n r (patched word marks found) → ⊥) → HasNoFilling n r word marks

@@ -102,8 +102,8 @@ less-power points s k x inside are =
     ∙ ap (λ v. product v (power x k)) (own k) ∙ one-product (power x k) (power-byte x k))
     ∙ plus-self (power x k)
 
--- An inverse from one side is one from the other: with the sums of its columns for coefficients, less a power, a polynomial vanishes
--- at all points, and it has no more coefficients than there are points.
+-- An inverse from one side is one from the other: with the sums of its columns for coefficients, less a power, a
+-- polynomial vanishes at all points, and it has no more coefficients than there are points.
 pub HasSums-inverse : (points : List ℕ) (columns : List (List ℕ)) → AreDistinct points → All IsByte points → IsInverse points columns → HasSums points columns
 HasSums-inverse points columns distinct all inverse = record {
   sums = λ k l inside below.

@@ -1,5 +1,5 @@
--- Why the contracts hold: lemmas on words with errors and marked places, the codewords near them, and registers that generate
--- lists.
+-- Why the contracts hold: lemmas on words with errors and marked places, the codewords near them, and registers that
+-- generate lists.
 pub mod Candidates
 pub mod Combinations
 pub mod Connections

@@ -1,5 +1,5 @@
--- The polynomial that vanishes at the points of bytes is a register that generates their power sums. So the shortest register
--- that generates them is no longer than there are bytes.
+-- The polynomial that vanishes at the points of bytes is a register that generates their power sums. So the shortest
+-- register that generates them is no longer than there are bytes.
 use Rattle.std.proofs.Common.{◌≡◌, ◌≢◌, ℕ, zero, suc, ◌+◌, ◌-◌, ◌<◌, ◌≤◌, List, [], ◌∷◌, ◌++◌, length, get_or, All, refl, sym, ap, ◌∙◌, arith}
 use Rattle.std.proofs.lemmas.List.Elements.{All-append, All-cons, All-nil}
 use Rattle.coding.specs.Field.{plus, product}

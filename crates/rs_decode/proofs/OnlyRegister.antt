@@ -1,5 +1,5 @@
--- A shortest register that is at most half as long as its list is the only one of its length. The difference of two, without
--- the zeros that it begins with and with its first tap made 1, would else be a shorter one.
+-- A shortest register that is at most half as long as its list is the only one of its length. The difference of two,
+-- without the zeros that it begins with and with its first tap made 1, would else be a shorter one.
 use Rattle.std.proofs.Common.{◌≡◌, ℕ, zero, suc, ◌+◌, ◌-◌, ◌*◌, ◌<◌, ◌≤◌, List, length, get_or, drop, sym, ap, ◌∙◌, arith, inl, inr, length-drop}
 use Rattle.std.proofs.lemmas.Bool.{cases_eq, cases_lt}
 use Rattle.std.proofs.lemmas.Grind.{same_number_lists}
@@ -21,8 +21,8 @@ difference-makes : (len : ℕ) (a b seq : List ℕ) → Generates len a seq → 
 difference-makes len a b seq gen_a gen_b k reached below =
     connection-sum_of len a b seq k (gen_a.size ∙ sym gen_b.size) ∙ rw (gen_a.vanishes k reached below, gen_b.vanishes k reached below) (plus-zero 0)
 
--- Without the zeros it begins with, it makes the list: where the difference reaches by what was just said, and after that
--- since a register makes it with which it is short enough.
+-- Without the zeros it begins with, it makes the list: where the difference reaches by what was just said, and after
+-- that since a register makes it with which it is short enough.
 rest-makes : (len first factor : ℕ) (difference taps seq : List ℕ) → first ≤ len → 2 * len ≤ length seq → Generates len taps seq
     → Makes len difference seq (length seq) → ((i : ℕ) → i < first → get_or difference i 0 ≡ 0) → (n : ℕ) → n ≤ length seq
     → Makes (len - first) (scaled factor (drop first difference)) seq n

@@ -97,8 +97,8 @@ longer n len other taps others seq is fails within first makes =
       )
     ]
 
--- A register that fails at n, with the right multiple of one that fails there too. The new length is the larger of both,
--- which no register can fall short of.
+-- A register that fails at n, with the right multiple of one that fails there too. The new length is the larger of
+-- both, which no register can fall short of.
 pub IsShortestTo-mended : (n len reach longest found failure factor : ℕ) (taps earlier seq : List ℕ) → IsShortestTo n len taps seq
     → FailsAt n reach failure earlier seq → len + reach ≡ n + 1 → get_or earlier 0 0 ≡ 0 → connection len taps seq n ≡ found → found ≢ 0
     → product factor failure ≡ found → len ≤ longest → reach ≤ longest → ((k : ℕ) → len ≤ k → reach ≤ k → longest ≤ k)

@@ -1,6 +1,6 @@
 -- A polynomial that isn't 0 has fewer zeros than coefficients.
--- With a zero a taken out by division by (x + a), it has one coefficient less and its other zeros. The division is plain where
--- the lowest power is first, so the polynomial is turned round for it.
+-- With a zero a taken out by division by (x + a), it has one coefficient less and its other zeros. The division is
+-- plain where the lowest power is first, so the polynomial is turned round for it.
 use Rattle.std.proofs.Common.{◌≡◌, ◌≢◌, ℕ, zero, suc, ◌+◌, ◌-◌, ◌<◌, ◌≤◌, List, [], ◌∷◌, ◌++◌, length, get_or, reverse, All, replicate, refl, sym, ap, subst, ◌∙◌, arith, inl, inr, ◌==◌, if◌then◌else◌}
 use Rattle.std.proofs.lemmas.List.{length-reverse, get_or-reverse, get_or-replicate}
 use Rattle.std.proofs.lemmas.Grind.{reverse_onto}
@@ -27,8 +27,8 @@ unfolding polynomial_at
 polynomial_at-byte [] x all = omega arith
 polynomial_at-byte (c ∷ cs) x all = plus-byte c (product x (polynomial_at cs x)) (All-head IsByte c cs all) (product-byte x (polynomial_at cs x))
 
--- the values at a of the coefficients from each place on. Where a is a zero of a polynomial, and these are its coefficients but
--- for the lowest, they are the quotient by (x + a).
+-- the values at a of the coefficients from each place on. Where a is a zero of a polynomial, and these are its
+-- coefficients but for the lowest, they are the quotient by (x + a).
 quotient : ℕ → List ℕ → List ℕ
 quotient a [] = []
 quotient a (c ∷ cs) = polynomial_at (c ∷ cs) a ∷ quotient a cs

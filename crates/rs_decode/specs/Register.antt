@@ -1,4 +1,5 @@
--- Linear feedback registers (ours): the rules by which each number of a list is a sum of multiples of the numbers before it.
+-- Linear feedback registers (ours): the rules by which each number of a list is a sum of multiples of the numbers
+-- before it.
 use Rattle.std.specs.Prelude.{◌≡◌, ℕ, zero, suc, ◌+◌, ◌-◌, ◌<◌, ◌≤◌, List, length, All, slice_index}
 use Rattle.coding.specs.Field.{plus, product}
 use Rattle.coding.specs.Words.{IsByte}

@@ -1,4 +1,6 @@
-//! Vectors and lists: vectors added to bytes, lists in the first lanes of vectors, and lanes moved up.
+//! Vectors and lists: vectors added to bytes, lists in the first lanes of vectors, and lanes moved up. They serve
+//! several modules of the crate. What has vectors as parameters or results is inlined, so that they needn't pass
+//! through memory.
 ghost use Rattle.std.specs.Prelude.{◌≡◌, ℕ, ◌+◌, ◌<◌, ◌≤◌, length, slice_index, take, ◌∷◌};
 ghost use Rattle.coding.specs.Field.{plus};
 ghost use Rattle.rs_lanes.specs.Inner.Lanes.{HasLanes};

@@ -18,7 +18,8 @@ use thiserror::Error;
 pub struct NoCodeword;
 
 /// Sets the bytes at the marked places so that `word` is a codeword, and answers how many places are marked.
-/// The bytes that were there don't count. After an error the word is unchanged.
+/// The bytes that were there don't count. After an error the word is unchanged. Only tests call it: decoders have
+/// syndromes at hand, and call `fill_from`.
 pub fn fill<const N: usize, const R: usize>(
     code: &Code<N, R>,
     word: &mut [u8; N],
@@ -36,7 +37,7 @@ pub fn fill<const N: usize, const R: usize>(
 }
 
 /// Sets the bytes in the same way, by the marked places and the word's syndromes. After an error the word is unchanged
-/// too.
+/// too. Decoders call it with syndromes at hand, and with places of errors among the marked ones.
 pub fn fill_from<const N: usize, const R: usize>(
     code: &Code<N, R>,
     erasures: &Erasures<N>,
@@ -49,6 +50,7 @@ pub fn fill_from<const N: usize, const R: usize>(
     ensures same { OnErr result (word.new ≡ word.old) }
 {
     let points = &erasures.points;
+    // The caller may have allowed more marks than this code has parity bytes.
     if points.len() > R {
         return Err(NoCodeword);
     }
@@ -63,8 +65,9 @@ pub fn fill_from<const N: usize, const R: usize>(
     Ok(())
 }
 
-// Whether a word that was filled with bytes at points is a codeword. Its values are the syndromes plus the power sums of these
-// bytes, so that it isn't divided again where there are at most sixteen.
+// Whether a word that was filled with bytes at points is a codeword. Its values are the syndromes plus the power sums
+// of these bytes, and 0 where the two are equal. So it isn't divided again where there are at most sixteen. `R` is a
+// constant of the type, so the choice is made before the program runs.
 fn completes<const N: usize, const R: usize>(
     code: &Code<N, R>,
     filled: &[u8; N],

@@ -1,4 +1,7 @@
 //! Errors and erasures: the codeword that is near a word with marks.
+//! The syndromes, with the marked points taken out, are power sums of the errors alone; the shortest register that
+//! generates them is a locator, whose zeros are the places of errors. These and the marked places are then filled
+//! alike.
 ghost use Rattle.std.specs.Prelude.{◌≡◌, ℕ, ◌≤◌, List, All, IfOk, OnErr};
 ghost use Rattle.coding.specs.Words.{IsByte, IsCodeword, IsNear};
 ghost use Rattle.rs_code.specs.Syndromes.{syndromes_of};
@@ -14,7 +17,7 @@ use arrayvec::ArrayVec;
 use rs_code::Code;
 use thiserror::Error;
 
-/// What a decoder corrected.
+/// What a decoder corrected. Both numbers are at most 255, as a word has no more places: any unsigned type would do.
 #[derive(Clone, Copy, Debug, PartialEq, Eq, Drop)]
 pub struct Fix {
     /// How many places that aren't marked changed.
@@ -28,9 +31,10 @@ pub struct Fix {
 #[error("no codeword is near the word")]
 pub struct Beyond;
 
-/// Sets `word` to the codeword that is near it: to the one for which twice the number of unmarked places that differ, and
-/// the number of marked places, are together at most the code's number of parity bytes. The byte at a marked place
-/// doesn't count. Answers `Beyond` exactly where no codeword is near, and the word is then unchanged.
+/// Sets `word` to the codeword that is near it: to the one for which twice the number of unmarked places that differ,
+/// and the number of marked places, are together at most the code's number of parity bytes. The byte at a marked place
+/// doesn't count. Answers `Beyond` exactly where no codeword is near, and the word is then unchanged. More marks than
+/// parity bytes are too many by themselves.
 pub fn decode<const N: usize, const R: usize>(
     code: &Code<N, R>,
     word: &mut [u8; N],
@@ -48,7 +52,8 @@ pub fn decode<const N: usize, const R: usize>(
     decode_from(code, &erasures, syndromes(code, word), word)
 }
 
-/// Sets `word` as `decode` does, by its marked places and its syndromes, which are at hand.
+/// Sets `word` as `decode` does, by its marked places and its syndromes, which are at hand: many words may share the
+/// one, and the other may have been found for 32 words at once.
 pub fn decode_from<const N: usize, const R: usize>(
     code: &Code<N, R>,
     erasures: &Erasures<N>,
@@ -65,9 +70,11 @@ pub fn decode_from<const N: usize, const R: usize>(
     // For the prover: nothing else says that the elements of this array are bytes.
     tell_bytes(word);
     let erased = erasures.points.len();
+    // The caller may have allowed more marks than this code corrects.
     if erased > R {
         return Err(Beyond);
     }
+    // A codeword without marks is its own answer, as most words are. With marks the steps below find the same.
     if erased == 0 && are_zeros(&syndromes) {
         return Ok(Fix {
             errors: 0,
@@ -91,8 +98,8 @@ pub fn decode_from<const N: usize, const R: usize>(
     })
 }
 
-// Sets the bytes at the marked places and at those where the locator shows an error: to the near codeword, if there is one.
-// What it makes is tested and counted, so nothing is needed of the locator but that it misses no error.
+// Sets the bytes at the marked places and at those where the locator shows an error: to the near codeword, if there is
+// one. What it makes is tested and counted, so nothing is needed of the locator but that it misses no error.
 fn fill_located<const N: usize, const R: usize>(
     code: &Code<N, R>,
     erasures: &Erasures<N>,
@@ -108,10 +115,11 @@ fn fill_located<const N: usize, const R: usize>(
     ensures same { OnErr result (word.new ≡ word.old) }
 {
     let locator = shortest(&sums_without(&erasures.points, &syndromes));
-    // A locator of degree 0 is 1 and shows no error.
+    // A locator of degree 0 is 1 and shows no error, so that no zeros are tried and no marks are copied.
     if locator.len == 0 {
         return fill_from(code, erasures, syndromes, word);
     }
+    // A copy, since other words may have the same marks and other errors.
     let mut doubtful = erasures.marks;
     mark_zeros(locator.taps, &mut doubtful);
     // With a near codeword there are no more such places than the code has parity bytes.

@@ -1,9 +1,11 @@
-//! The bytes at given points that have given power sums, by Forney's formula: at each point the value of an evaluator, divided
-//! by the derivative of the locator, the polynomial that vanishes at the points.
+//! The bytes at given points that have given power sums, by Forney's formula: at each point the value of an evaluator,
+//! divided by the derivative of the locator, the polynomial that vanishes at the points.
 //!
-//! Where the places are known, this takes the least work: the evaluator comes from the sums by a step for each point, and no
-//! system of equations is solved. The formula finds the only bytes that can have the sums. Whether they have them all, and a
-//! word with them is a codeword, is tested where they are used: no proof rests on their being right for any other word.
+//! Where the places are known, this takes the least work: the evaluator comes from the sums by a step for each point,
+//! and no system of equations is solved. The formula finds the only bytes that can have the sums. Whether they have
+//! them all, and a word with them is a codeword, is tested where they are used: no proof rests on their being right for
+//! any other word.
+//! In clauses a vector is a list, whose length its type doesn't say: so they say it where a proof needs it.
 ghost use Rattle.std.specs.Prelude.{◌≡◌, ◌≢◌, ℕ, ◌+◌, ◌*◌, ◌<◌, ◌≤◌, List, length, take, drop, All, slice_index};
 ghost use Rattle.coding.specs.Field.{alpha, plus, product, power};
 ghost use Rattle.coding.specs.Words.{value};
@@ -18,7 +20,7 @@ use gf_field::{alpha_pow, div, log, mul};
 use rs_lanes::with_multiple;
 use std::simd::prelude::*;
 
-/// The bytes at the points that have these power sums, the lowest first, if any have.
+/// The bytes at the points that have these power sums, the lowest first, if any have; else bytes that may be anything.
 pub fn bytes_at(points: &[u8], sums: &[u8]) -> ArrayVec<u8, 32>
     requires distinct { AreDistinct points.now }
     requires enough { length points.now ≤ length sums.now }
@@ -36,7 +38,7 @@ pub fn bytes_at(points: &[u8], sums: &[u8]) -> ArrayVec<u8, 32>
 }
 
 /// The derivative of the locator at a point: the product of its distances to the others. It is a sum of logarithms, so
-/// that only one power is looked up.
+/// that only one power is looked up. It isn't 0, since no two points are equal. It is public for `inverse`.
 pub fn derivative(points: &[u8], i: usize) -> u8
     requires distinct { AreDistinct points.now }
     requires inside { i < length points.now }
@@ -65,8 +67,11 @@ fn distance_exponent(point: u8, others: &[u8]) -> u32
     exponent
 }
 
-// The evaluator of power sums, in the first lanes, the highest power first: its value at x is the sum of the bytes, each times
-// the slope of the locator between its point and x.
+// The evaluator of power sums, in the first lanes, the highest power first: its value at x is the sum of the bytes,
+// each times the slope of the locator between its point and x. The slope is what the locator's values at both differ
+// by, divided by their distance, and the derivative where both are one. So at a point only that point's byte is left.
+// It is the product of the locator and the sums, highest powers first: each step multiplies by one distance, and lanes
+// past the number of points aren't part of it.
 fn evaluator(points: &[u8], sums: &[u8]) -> u8x32
     requires enough { length points.now ≤ length sums.now }
     requires room { length sums.now ≤ 32 }
@@ -82,7 +87,8 @@ fn evaluator(points: &[u8], sums: &[u8]) -> u8x32
 }
 
 /// A polynomial times (x + `point`), where the highest power of both is in the first lane. What leaves the last lane is
-/// lost, but callers use the first lanes alone.
+/// lost, but callers use the first lanes alone. Lane `k` gets the point times lane `k - 1`. It is public for `inverse`,
+/// and inlined, so that lanes needn't pass through memory.
 #[inline(always)]
 pub fn times_distance(lanes: u8x32, point: u8) -> u8x32
     requires { length lanes ≡ 32 }
@@ -93,7 +99,7 @@ pub fn times_distance(lanes: u8x32, point: u8) -> u8x32
     with_multiple(lanes, moved_up(0, lanes), point)
 }
 
-// The value of a polynomial, the highest power first, by Horner's rule.
+// The value of a polynomial at an element, the highest power first, by Horner's rule.
 fn value_at(polynomial: &[u8], x: u8) -> u8
     ensures { result ≡ value polynomial.now x }
 {

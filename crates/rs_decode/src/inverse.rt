@@ -1,5 +1,6 @@
-//! The inverse of the powers of points: what Forney's formula gives for the points alone. Many words whose marked places are
-//! the same are filled by it, each by sums of multiples of its columns.
+//! The inverse of the powers of points: what Forney's formula gives for the points alone. Many words whose marked
+//! places are the same are filled by it, each by sums of multiples of its columns.
+//! In clauses a vector is a list, whose length its type doesn't say: so they say it where a proof needs it.
 ghost use Rattle.std.specs.Prelude.{◌≡◌, ◌≢◌, ℕ, ◌+◌, ◌<◌, ◌≤◌, length, take, slice_index, ◌==◌, if◌then◌else◌};
 ghost use Rattle.coding.specs.Field.{product};
 ghost use Rattle.coding.specs.Words.{value};
@@ -18,11 +19,12 @@ use gf_field::inv;
 use rs_lanes::scaled;
 use std::simd::prelude::*;
 
-/// The inverse of the matrix whose row k has the k-th powers of at most sixteen points: its row i, times power sums, is the
-/// byte at point i. It is as wide as there are points, and the rest are zeros.
+/// The inverse of the matrix whose row k has the k-th powers of at most sixteen points: its row i, times power sums, is
+/// the byte at point i. It is as wide as there are points, and the rest are zeros. Sixteen bytes are a vector, and no
+/// code of a block has more parity bytes.
 #[derive(Drop)]
 pub struct Inverse {
-    /// The points, none of which comes twice.
+    /// The points, none of which comes twice. Sixteen at most, though the list has the room of all lists of points.
     pub(crate) points: ArrayVec<u8, 32>,
     /// Its columns: byte i of column k is in row i. A column is one vector, to be multiplied by the k-th power sum.
     pub(crate) columns: [[u8; 16]; 16],
@@ -35,7 +37,7 @@ pub struct Inverse {
 }
 
 impl Inverse {
-    /// That of the powers of these points.
+    /// That of the powers of these points. Were two equal, there would be no inverse.
     pub fn new(points: ArrayVec<u8, 32>) -> Self
         requires distinct { AreDistinct points.items }
         requires few { length points.items ≤ 16 }
@@ -45,7 +47,8 @@ impl Inverse {
         Inverse { points, columns }
     }
 
-    /// The bytes at the points that have these power sums, the lowest first, if any have.
+    /// The bytes at the points that have these power sums, the lowest first, if any have. As many sums are read as
+    /// there are points, which determine the bytes; callers test the others.
     pub fn bytes_at(&self, sums: &[u8]) -> ArrayVec<u8, 32>
         requires { length self.now.points.items ≤ length sums.now }
         ensures { AreOnly self.now.points.items sums.now result.items }
@@ -55,7 +58,8 @@ impl Inverse {
     }
 }
 
-// The columns of the inverse, row by row.
+// The columns of the inverse, row by row: row i has the coefficients of the polynomial that is 1 at point i and 0 at
+// the others. Its value at a point is a sum of coefficients times powers, so power sums take the place of the powers.
 fn inverse_columns(points: &[u8]) -> [[u8; 16]; 16]
     requires distinct { AreDistinct points.now }
     requires few { length points.now ≤ 16 }
@@ -70,7 +74,9 @@ fn inverse_columns(points: &[u8]) -> [[u8; 16]; 16]
 }
 
 // The polynomial that is 1 at point `i` and 0 at all others, the highest power in the first lane. It is the product of
-// the distances to the others, divided by its value at that point.
+// the distances to the others, divided by its value at that point. It begins with the inverse of that value and is
+// multiplied by the distances before and after `i`. It has 32 lanes, as the step that it shares with Forney's formula
+// has.
 fn basis(points: &[u8], i: usize) -> [u8; 32]
     requires distinct { AreDistinct points.now }
     requires inside { i < length points.now }
@@ -99,7 +105,8 @@ fn times_distances(lanes: u8x32, others: &[u8]) -> u8x32
     product
 }
 
-// Sets row `i` to the coefficients of a polynomial, of which the highest power comes first in the list.
+// Sets row `i` to the coefficients of a polynomial, of which the highest power comes first in the list: that of x^k
+// goes to column k, so the list is read from its end. All other rows stay.
 fn set_row(columns: &mut [[u8; 16]; 16], i: usize, polynomial: &[u8])
     requires inside { i < 16 }
     requires few { length polynomial.now ≤ 16 }
@@ -112,7 +119,7 @@ fn set_row(columns: &mut [[u8; 16]; 16], i: usize, polynomial: &[u8])
     }
 }
 
-// A column with a byte set.
+// A column with a byte set. By itself, so that a clause says what stays of a column.
 fn with_byte(column: [u8; 16], i: usize, byte: u8) -> [u8; 16]
     requires { i < 16 }
     ensures set { slice_index result i ≡ byte }
@@ -123,7 +130,7 @@ fn with_byte(column: [u8; 16], i: usize, byte: u8) -> [u8; 16]
     column
 }
 
-// The sum of the columns, each times one of the sums.
+// The sum of the columns, each times one of the sums: lane `i` is row i times the sums.
 fn combined(columns: &[[u8; 16]; 16], sums: &[u8]) -> u8x16
     requires { length sums.now ≤ 16 }
     ensures { HoldsLanes 16 result (λ i. total (length sums.now) (λ k. product (place columns.now k i) (slice_index sums.now k))) }

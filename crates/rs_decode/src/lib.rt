@@ -1,8 +1,8 @@
 //! Decoding of words of Reed-Solomon codes (ECMA-267, clauses 16.2 and 18) in place, by functions that take no memory.
 //!
 //! - [`erasures`]: `fill` finds the codeword that agrees with a word at all places that aren't marked.
-//! - [`errors`]: `decode` finds the codeword that is near a word with marks, and `decode_from` does so by syndromes and marked
-//!   places that are at hand, so that words with the same marks share these.
+//! - [`errors`]: `decode` finds the codeword that is near a word with marks, and `decode_from` does so by syndromes and
+//!   marked places that are at hand, so that words with the same marks share these.
 //! - `forney`: the bytes at given points that have given power sums, by Forney's formula.
 //! - `inverse`: what the formula gives for the points alone, [`Inverse`], by which many words are filled.
 //! - `locating`: the places where errors may be, from power sums and a locator.

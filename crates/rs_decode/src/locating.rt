@@ -23,7 +23,7 @@ pub fn sums_without(points: &[u8], sums: &[u8]) -> ArrayVec<u8, 32>
     ensures len { array_vec_len result + length points.now ≡ length sums.now }
     ensures are { (places bytes : List ℕ) → AreSums places bytes sums.now → AreSums places (at_points (distances points.now) bytes places) result.items }
 {
-    // No sum is left.
+    // No sum is left, so that none is computed.
     if points.len() == sums.len() {
         return ArrayVec::new();
     }
@@ -31,6 +31,7 @@ pub fn sums_without(points: &[u8], sums: &[u8]) -> ArrayVec<u8, 32>
     if sums.len() <= 16 {
         return front(without_points(points, sums), sums.len() - points.len());
     }
+    // The list has room for as many sums as there may be. It keeps those of the caller as they are.
     let mut left: ArrayVec<u8, 32> = ArrayVec::try_from(sums).unwrap();
     for point in points {
         take_out_point(&mut left, *point);
@@ -39,7 +40,9 @@ pub fn sums_without(points: &[u8], sums: &[u8]) -> ArrayVec<u8, 32>
     left
 }
 
-/// Adds the point times each sum to the next, one place lower. The last one stays.
+/// Adds the point times each sum to the next, one place lower. The last one stays, and the caller drops it. Upwards, so
+/// that each sum is read before it is overwritten. It is for codes with more than sixteen parity bytes: their sums are
+/// too many for the vector that `without_points` takes.
 fn take_out_point(sums: &mut [u8], point: u8)
     ensures { (k : ℕ) → k + 1 < length sums.old → slice_index sums.new k ≡ plus (slice_index sums.old (k + 1)) (product point (slice_index sums.old k)) }
 {
@@ -48,8 +51,9 @@ fn take_out_point(sums: &mut [u8], point: u8)
     }
 }
 
-/// Marks each place whose point is a zero of the locator. Marks that are there stay. The last place of a word has the
-/// point alpha^0.
+/// Marks each place whose point is a zero of the locator, which has at most 33 coefficients, the highest power first:
+/// the taps of a register for up to 32 sums. Marks that are there stay. The last place of a word has the point alpha^0.
+/// Also places without an error may be marked where the locator isn't right: what is then filled is tested.
 pub fn mark_zeros(locator: ArrayVec<u8, 33>, marks: &mut [bool])
     requires short { length marks.now ≤ 255 }
     ensures { marks.new ≡ with_zeros locator.items marks.old (points_of (length marks.old)) }
@@ -62,7 +66,7 @@ pub fn mark_zeros(locator: ArrayVec<u8, 33>, marks: &mut [bool])
     }
 }
 
-/// How many unmarked places of a received word differ from a codeword.
+/// How many unmarked places of a received word differ from a codeword: its errors. Of marked ones the number is known.
 pub fn count_errors(received: &[u8], word: &[u8], marks: &[bool]) -> u16
     requires short { length marks.now ≤ 255 }
     requires received_fits { length received.now ≡ length marks.now }

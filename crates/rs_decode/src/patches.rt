@@ -1,6 +1,8 @@
-//! What 32 words with the same marks lack at their marked places, for all at once: proposed in the lanes of vectors by the
-//! inverse of the places' powers. The bytes have the right power sums, as many as there are marked places. Whether the further
-//! sums are right too, as they are where a word has no errors, is tested there: with sixteen marked places none is left.
+//! What 32 words with the same marks lack at their marked places, for all at once: proposed in the lanes of vectors by
+//! the inverse of the places' powers. The bytes have the right power sums, as many as there are marked places. Whether
+//! the further sums are right too, as they are where a word has no errors, is tested there: with sixteen marked places
+//! none is left. In contracts `Completes` says of patches and a word: where `wrong` is 0 for it, it is a codeword with
+//! its bytes added.
 ghost use Rattle.std.specs.Prelude.{◌≡◌, ◌≢◌, ℕ, ◌<◌, ◌≤◌, Bool, List, false, length, slice_index, take, All, IsTrue};
 ghost use Rattle.coding.specs.Field.{alpha, plus, power, product};
 ghost use Rattle.coding.specs.Words.{value};
@@ -17,7 +19,8 @@ use gf_field::log;
 use rs_lanes::{any_of, powers, with_multiple};
 use std::simd::prelude::*;
 
-/// The bytes to add at the marked places of 32 words of a code with sixteen parity bytes, which all have the same marks.
+/// The bytes to add at the marked places of 32 words of a code with sixteen parity bytes, which all have the same
+/// marks. They are bytes and not vectors, since they are read word by word.
 #[derive(Drop)]
 pub struct Patches {
     /// Byte `n` of the list with number `i` is for the marked place that `i` others come before, in word `n`.
@@ -27,7 +30,7 @@ pub struct Patches {
 }
 
 impl Patches {
-    /// Those for no word. Each word is noted as wrong, so that none is filled.
+    /// Those for no word, whatever its marks are. Each word is noted as wrong, so that none is filled.
     pub fn none() -> Self
         ensures { (n : ℕ) (marks : List Bool) (word : List ℕ) → n < 32 → Completes result marks n word }
     {
@@ -37,9 +40,9 @@ impl Patches {
         }
     }
 
-    /// Those for words with these marks that have these values at alpha^0 to alpha^15: for word `n` those in the lanes `n`.
-    /// They are right for each word that has a filling, if the marks are made for many words, which tests show and no contract
-    /// says.
+    /// Those for words with these marks that have these values at alpha^0 to alpha^15: for word `n` those in the lanes
+    /// `n`. They are right for each word that has a filling, if the marks are made for many words, which tests show and
+    /// no contract says: `wrong` says where they are, and a word that isn't filled is decoded by itself.
     pub fn new<const N: usize>(erasures: &Erasures<N>, values: &[u8x32; 16]) -> Self
         ensures { (n : ℕ) (word : List ℕ) → n < 32 → length word ≡ N
             → ((k : ℕ) → k < 16 → place values.now k n ≡ value word (power alpha k)) → Completes result erasures.now.marks n word }
@@ -56,8 +59,9 @@ impl Patches {
         patches
     }
 
-    /// Sets the bytes at the marked places of word `n` so that it is a codeword. Answers whether the bytes for it are right:
-    /// where they aren't, the word is unchanged.
+    /// Sets the bytes at the marked places of word `n` so that it is a codeword. Answers whether the bytes for it are
+    /// right: where they aren't, the word is unchanged. The marks have to be those that the patches were made for,
+    /// which a clause asks for, as the word has to be the one whose values they were made by.
     pub fn fill<const N: usize>(&self, erasures: &Erasures<N>, n: usize, word: &mut [u8; N]) -> bool
         requires short { N ≤ 255 }
         requires lane { n < 32 }
@@ -66,7 +70,8 @@ impl Patches {
         ensures same { result ≡ false → word.new ≡ word.old }
     {
         let count = erasures.points.len();
-        // Where there is no inverse, the places aren't listed either.
+        // Where there is no inverse, the places aren't listed either. More than sixteen have none, but only the test of
+        // the count shows that.
         if self.wrong[n] != 0 || count > 16 || erasures.inverse.is_none() {
             return false;
         }
@@ -75,8 +80,8 @@ impl Patches {
         true
     }
 
-    // Adds the bytes for word `n` at its marked places. That a place is one of the word is tested, since the type of
-    // the list doesn't say so.
+    // Adds the bytes for word `n` at its marked places; all other places stay. A clause asks for places of the word, so
+    // that none is tested here.
     #[inline(always)]
     fn add_to(&self, places: &[u8], n: usize, word: &mut [u8])
         requires lane { n < 32 }
@@ -104,8 +109,8 @@ fn proposed(inverse: &Inverse, values: &[u8x32; 16]) -> [u8x32; 16]
     bytes
 }
 
-// Lanes that are zero only where bytes at points have these values as their further power sums: none is left where there
-// are sixteen points. They are added to the values, and leave zeros where both are equal.
+// Lanes that are zero only where bytes at points have these values as their further power sums: none is left where
+// there are sixteen points. They are added to the values, and leave zeros where both are equal.
 fn left_over(points: &[u8], bytes: &[u8x32; 16], values: &[u8x32; 16]) -> u8x32
     requires nonzero { All (λ point. point ≢ 0) points.now }
     requires few { length points.now ≤ 16 }
@@ -120,7 +125,8 @@ fn left_over(points: &[u8], bytes: &[u8x32; 16], values: &[u8x32; 16]) -> u8x32
     any_of(&left)
 }
 
-// Adds to each lane the power sum with the number `k` of its bytes at the points.
+// Adds to each lane the power sum with the number `k` of its bytes at the points. From the last byte on, as the
+// definition adds a byte to the sum of those after it.
 fn with_sum(points: &[u8], bytes: &[u8x32; 16], value: u8x32, k: usize) -> u8x32
     requires nonzero { All (λ point. point ≢ 0) points.now }
     requires few { length points.now ≤ 16 }
@@ -136,7 +142,8 @@ fn with_sum(points: &[u8], bytes: &[u8x32; 16], value: u8x32, k: usize) -> u8x32
     sum
 }
 
-// Adds to each of sixteen vectors its multiple of one vector.
+// Adds to each of sixteen vectors its multiple of one vector. Past the last point the factors are zeros. It is inlined,
+// so that lanes needn't pass through memory.
 #[inline(always)]
 fn add_multiples(sums: &mut [u8x32; 16], lanes: u8x32, factors: &[u8; 16])
     ensures size { length sums.new ≡ 16 }

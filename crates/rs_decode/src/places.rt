@@ -1,4 +1,9 @@
-//! The marked places of a word.
+//! The marked places of a word. The point of a place is the power of alpha that its byte is at: the last place of a
+//! word has alpha^0, and the first one alpha^(size - 1). Lists of points have room for 32, as no code here has more
+//! parity bytes, and a word with more marks than these isn't filled.
+//! A word has at most 255 bytes: alpha has as many different powers, so that no two places have one point.
+//! Marks are counted in 16 bits, as the errors of a word are. In contracts `picked` are the entries of a list at marked
+//! places, and `ArePlaces` says that a list begins with these places.
 ghost use Rattle.std.specs.Prelude.{◌≡◌, List, Bool, false, ◌-◌, ◌<◌, ◌≤◌, length, replicate, All, IfSome, MatchOption};
 ghost use Rattle.std.specs.Option.{ForSome};
 ghost use Rattle.coding.specs.Field.{alpha, power};
@@ -18,14 +23,14 @@ use gf_field::{alpha_pow, log};
 /// that have these marks.
 #[derive(Drop)]
 pub struct Erasures<const N: usize> {
-    /// A mark for each place: whether its byte is known to be lost.
+    /// A mark for each place: whether its byte is known to be lost. They are public, as contracts of callers name them.
     pub marks: [bool; N],
     /// The points of the marked places, in their order.
     pub(crate) points: ArrayVec<u8, 32>,
-    // The inverse of their powers, where many words are to be filled at them.
+    // The inverse of their powers, where many words are to be filled at them and they are at most sixteen.
     pub(crate) inverse: Option<Inverse>,
     // The marked places in order, there too: as many as there are points, and zeros or others after them.
-    // A word has at most 255 places, so that each is a byte.
+    // A word has at most 255 places, so that each is a byte and 256 entries are enough.
     pub(crate) places: [u8; 256],
     /// A word of `N` bytes has as many places.
     pub ghost size: { length marks ≡ N },
@@ -35,7 +40,7 @@ pub struct Erasures<const N: usize> {
 }
 
 impl<const N: usize> Erasures<N> {
-    /// Those of a word without marks.
+    /// Those of a word without marks: they need no search through marks.
     pub fn none() -> Self
         ensures { result.marks ≡ replicate N false }
     {
@@ -62,7 +67,8 @@ impl<const N: usize> Erasures<N> {
         })
     }
 
-    /// The same for many words, for which the inverse of the places' powers is made once. It pays from some ten words on.
+    /// The same for many words, for which the inverse of the places' powers is made once. It pays from some ten words
+    /// on. The marked places are listed too, so that bytes are added there without logarithms.
     pub fn shared(marks: &[bool; N], most: usize) -> Option<Self>
         requires room { most ≤ 32 }
         requires short { N ≤ 255 }
@@ -70,6 +76,7 @@ impl<const N: usize> Erasures<N> {
     {
         let points = marked_points(marks, most)?;
         let inverse = inverse_of(&points);
+        // Once more, though the points came of them: `new` keeps no places, and here this is done once for many words.
         let mut places = [0; 256];
         gather_places(marks, &mut places);
         Some(Erasures {
@@ -80,7 +87,8 @@ impl<const N: usize> Erasures<N> {
         })
     }
 
-    /// The bytes at the marked places that have these power sums, if any have.
+    /// The bytes at the marked places that have these power sums, if any have; else any bytes. Sums past the number of
+    /// places don't count: whoever adds the bytes tests whether these agree too.
     pub(crate) fn corrections(&self, sums: &[u8]) -> ArrayVec<u8, 32>
         requires short { N ≤ 255 }
         requires enough { length self.now.points.items ≤ length sums.now }
@@ -94,7 +102,7 @@ impl<const N: usize> Erasures<N> {
     }
 }
 
-// The inverse of the powers of points, if these are few enough for it.
+// The inverse of the powers of points, if these are few enough for it: a column of it is one vector of sixteen lanes.
 fn inverse_of(points: &[u8]) -> Option<Inverse>
     requires { AreDistinct points.now }
     ensures { IfSome result (λ inverse. inverse.points.items ≡ points.now) }
@@ -102,6 +110,7 @@ fn inverse_of(points: &[u8]) -> Option<Inverse>
     if points.len() > 16 {
         return None;
     }
+    // Sixteen fit into the list, which has room for 32.
     Some(Inverse::new(ArrayVec::try_from(points).unwrap()))
 }
 
@@ -152,7 +161,8 @@ fn point_of(size: usize, place: usize) -> u8
     alpha_pow((size - 1 - place) as u32)
 }
 
-// Writes the marked places in order.
+// Writes the marked places in order, from the first entry on. What the entries after them are isn't said: the caller
+// has to know how many are marked.
 fn gather_places(marks: &[bool], places: &mut [u8; 256])
     requires short { length marks.now ≤ 255 }
     ensures { ArePlaces marks.now (marked marks.now) places.new }
@@ -165,9 +175,9 @@ fn gather_places(marks: &[bool], places: &mut [u8; 256])
     }
 }
 
-/// Adds each byte to the place that has its point. Where the points are those of marked places, these are patched in order.
-/// Also ensures that its elements are bytes. A point that no place of the word has is passed over, as the type of the
-/// points allows any byte.
+/// Adds each byte to the place that has its point; all other places stay. Where the points are those of marked places,
+/// these are patched in order. Done twice it changes nothing, by which a caller takes it back. Also ensures that its
+/// elements are bytes. A point that no place of the word has is passed over, as the type of the points allows any byte.
 pub fn patch(word: &mut [u8], points: &[u8], bytes: &[u8])
     requires short { length word.old ≤ 255 }
     requires fits { length bytes.now ≡ length points.now }

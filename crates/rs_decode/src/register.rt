@@ -1,7 +1,9 @@
 //! The shortest linear feedback register that generates a list, by the steps of Berlekamp and Massey: the list is taken
-//! number by number. Where the register at hand fails, a multiple of an earlier one, shifted to fail at the same place, corrects
-//! it. A register's taps are in one vector, and its connections from the place at hand on in another: what corrects its taps
-//! corrects its connections too, so that nothing is summed up at any place. No step takes memory.
+//! number by number. Where the register at hand fails, a multiple of an earlier one, shifted to fail at the same place,
+//! corrects it. A register's taps are in one vector, and its connections from the place at hand on in another: what
+//! corrects its taps corrects its connections too, so that nothing is summed up at any place. No step takes memory, and
+//! each is inlined, so that both vectors may stay in registers.
+//! In clauses a vector is a list, whose length its type doesn't say: so they say it where a proof needs it.
 ghost use Rattle.std.specs.Prelude.{◌≡◌, ℕ, ◌+◌, ◌<◌, ◌≤◌, ◌∷◌, length, take, slice_index};
 ghost use Rattle.coding.specs.Field.{plus, product};
 ghost use Rattle.rs_lanes.specs.Inner.Lanes.{HasLanes};
@@ -13,13 +15,13 @@ use gf_field::inv;
 use rs_lanes::{multiple, store, with_multiple};
 use std::simd::prelude::*;
 
-/// A register that generates a list: from place `len` on, the sum over i of the i-th tap times the number i places before
-/// is 0.
+/// A register that generates a list: from place `len` on, the sum over i of the i-th tap times the number i places
+/// before is 0.
 #[derive(Clone, Debug, PartialEq, Eq, Drop)]
 pub struct Register {
-    /// How many numbers before a place it reads, 0 to 32.
+    /// How many numbers before a place it reads, 0 to 32: its length. Any unsigned type would do.
     pub len: u16,
-    /// Its `len` + 1 taps, of which the first is 01.
+    /// Its `len` + 1 taps, of which the first is 01: so there is room for 33.
     pub taps: ArrayVec<u8, 33>,
 }
 
@@ -33,7 +35,8 @@ struct Candidate {
 }
 
 /// The shortest register that generates `seq`, which has at most 32 bytes. It takes no memory and never fails.
-/// Where its length is more than half of the number of bytes, there may be others as short, of which this is one.
+/// Where its length is more than half of the number of bytes, there may be others as short, of which this is one. Other
+/// crates call it in tests alone. 32 bytes are as many syndromes as a code has at most.
 pub fn shortest(seq: &[u8]) -> Register
     requires { length seq.now ≤ 32 }
     ensures generates { Generates result.len result.taps.items seq.now }
@@ -45,17 +48,19 @@ pub fn shortest(seq: &[u8]) -> Register
         taps: u8x32::splat(0),
         connections: u8x32::from_array(in_front(seq)),
     };
-    // The register from before the length last changed, shifted to fail at the place at hand, and multiplied to fail by 1.
-    // While the length is 0 there is none, and x takes its place.
+    // The register from before the length last changed, shifted to fail at the place at hand, and multiplied to fail by
+    // 1. While the length is 0 there is none, and x takes its place.
     let mut earlier = Candidate {
         taps: moved_up(1, register.taps),
         connections: moved_up(0, register.connections),
     };
     for place in 0..seq.len() {
         let found = register.connections[0];
-        // The first tap of the earlier one, before it is shifted.
+        // The first tap of the earlier one, before it is shifted: other than 0 only where the register at hand, whose
+        // first tap is 1, was put in its place and multiplied.
         let mut first = 0;
         if found != 0 {
+            // A copy, since it may become the earlier one.
             let before = register;
             register = mended(register, earlier, found);
             // No register that generates the number here is shorter than `place + 1 - len`.
@@ -75,7 +80,7 @@ pub fn shortest(seq: &[u8]) -> Register
     }
 }
 
-// A register with a multiple of another added.
+// A register with a multiple of another added, in taps and connections alike.
 #[inline(always)]
 fn mended(register: Candidate, other: Candidate, factor: u8) -> Candidate
     ensures taps { HasLanes result.taps (λ k. plus (slice_index register.taps k) (product (slice_index other.taps k) factor)) }
@@ -88,7 +93,7 @@ fn mended(register: Candidate, other: Candidate, factor: u8) -> Candidate
     }
 }
 
-// A multiple of a register but for its first tap.
+// A multiple of a register but for its first tap, which the caller has.
 #[inline(always)]
 fn scaled(register: Candidate, factor: u8) -> Candidate
     ensures taps { HasLanes result.taps (λ k. product (slice_index register.taps k) factor) }
@@ -100,7 +105,7 @@ fn scaled(register: Candidate, factor: u8) -> Candidate
     }
 }
 
-// Each lane moved down by one. What was in the first lane is lost.
+// Each lane moved down by one. What was in the first lane is lost: that place is done. The last lane becomes 0.
 #[inline(always)]
 fn moved_down(lanes: u8x32) -> u8x32
     ensures size { length result ≡ 32 }
@@ -115,7 +120,7 @@ fn moved_down(lanes: u8x32) -> u8x32
     )
 }
 
-// The taps of a register of length `len`, of which the first is 1.
+// The taps of a register of length `len`, of which the first is 1. The others of the 32 are dropped: they are zeros.
 fn all_taps(lanes: u8x32, len: usize) -> ArrayVec<u8, 33>
     requires { len ≤ 32 }
     ensures { result.items ≡ take (len + 1) (1 ∷ lanes) }

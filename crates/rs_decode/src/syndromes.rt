@@ -1,5 +1,6 @@
-//! The syndromes of a word, and power sums of bytes at points: sixteen at once, a lane for each, where the code has no more
-//! parity bytes.
+//! The syndromes of a word, and power sums of bytes at points: sixteen at once, a lane for each, where the code has no
+//! more parity bytes.
+//! In clauses a vector is a list, whose length its type doesn't say: so they say it where a proof needs it.
 ghost use Rattle.std.specs.Prelude.{◌≡◌, ◌≢◌, ◌↔◌, ℕ, ◌<◌, ◌≤◌, take, length, slice_index, All, IsTrue};
 ghost use Rattle.coding.specs.Field.{alpha, power};
 ghost use Rattle.coding.specs.Words.{value};
@@ -13,7 +14,8 @@ use rs_code::Code;
 use rs_lanes::{powers, scaled};
 use std::simd::prelude::*;
 
-/// The values of `word` at alpha^0 to alpha^(R-1), in this order.
+/// The values of `word` at alpha^0 to alpha^(R-1), in this order. `R` is a constant of the type, so the choice between
+/// these ways is made before the program runs.
 pub fn syndromes<const N: usize, const R: usize>(
     code: &Code<N, R>,
     word: &[u8; N],
@@ -23,7 +25,8 @@ pub fn syndromes<const N: usize, const R: usize>(
     if R > 16 {
         return code.syndromes(word);
     }
-    // The codes of an ECC block divide by tables, which is shorter than to go over the whole word lane by lane.
+    // The codes of an ECC block divide by tables, which is shorter than to go over the whole word lane by lane. The
+    // remainder has the word's values.
     if R == 10 || R == 16 {
         return front(values(&code.remainder(word)), R);
     }
@@ -42,7 +45,7 @@ pub fn are_zeros(numbers: &[u8]) -> bool
     true
 }
 
-/// The first lanes of a vector.
+/// The first lanes of a vector, as a list. They are at most sixteen, which always fit.
 pub fn front(lanes: u8x16, count: usize) -> ArrayVec<u8, 32>
     requires lanes { length lanes ≡ 16 }
     requires few { count ≤ 16 }
@@ -65,7 +68,8 @@ pub fn power_sums(points: &[u8], bytes: &[u8]) -> u8x16
     sums
 }
 
-// The values of a word at alpha^0 to alpha^15: each byte counts as often as its power of alpha, to the power of the lane.
+// The values of a word at alpha^0 to alpha^15: each byte counts as often as its power of alpha, to the power of the
+// lane. From the last byte on, as the definition adds a byte to the value of those after it.
 fn values(word: &[u8]) -> u8x16
     requires short { length word.now ≤ 255 }
     ensures { HoldsLanes 16 result (λ k. value word.now (power alpha k)) }

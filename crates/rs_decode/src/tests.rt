@@ -1,5 +1,5 @@
-//! Worked values from outside, and the answers for drawn words as another decoder gives them: one by the Berlekamp-Massey
-//! algorithm and Forney's formula.
+//! Worked values from outside, and the answers for drawn words as another decoder gives them: one by the
+//! Berlekamp-Massey algorithm and Forney's formula.
 ghost use Rattle.std.specs.Prelude.{◌≡◌, ◌<◌, ◌≤◌, length};
 
 use crate::{Beyond, Erasures, Fix, NoCodeword, Patches, decode, fill, shortest};
@@ -116,6 +116,8 @@ fn decodes_the_shortest_words(rt: HostRuntime) {
 }
 
 /// Drawn numbers: each is a state of 64 bits, to which three shifts of itself were added.
+/// With shifts by 13, 7 and 17 all states but 0 come before one comes again; the first is any of them. The other
+/// decoder was given the same.
 #[derive(Drop)]
 struct Drawn {
     state: u64,
@@ -146,7 +148,9 @@ impl Drawn {
         }
     }
 
-    /// Damages up to one marked place more than `parity`, and up to one unmarked place more than half of it.
+    /// Damages up to one marked place more than `parity`, and up to one unmarked place more than half of it. They are
+    /// 31 apart, which has no factor in common with a length here, so that no place comes twice; any such number would
+    /// do.
     fn damage(&mut self, word: &mut [u8], marks: &mut [bool], parity: usize)
         requires some { 0 < length word.old }
         requires fits { length marks.old ≡ length word.old }
@@ -181,6 +185,7 @@ fn answers_digest<const N: usize, const R: usize>(
         drawn.damage(&mut word, &mut marks, R);
         match decode(code, &mut word, &marks) {
             Ok(fix) => {
+                // Both counts are below 256, so that their low bytes are all of them.
                 hasher.update(&[1]);
                 hasher.update(&[fix.errors.to_be_bytes()[1], fix.erased.to_be_bytes()[1]]);
             }
@@ -220,7 +225,16 @@ fn finds_shortest_registers_as_worked(rt: HostRuntime) {
     }
 }
 
-/// Adds the powers of a drawn point, each times a drawn byte, to a list: a register of as many taps as points generates it.
+#[test]
+fn registers_are_alike_where_they_generate_one_recurrence(rt: HostRuntime) {
+    let doubling = shortest(&[0x01, 0x02, 0x04, 0x08]);
+    assert!(rt; doubling == shortest(&[0x02, 0x04, 0x08, 0x10]));
+    assert!(rt; doubling != shortest(&[0x01, 0x04, 0x10, 0x40]));
+    assert!(rt; doubling != shortest(&[0x00, 0x00]));
+}
+
+/// Adds the powers of a drawn point, each times a drawn byte, to a list: a register of as many taps as points generates
+/// it.
 fn add_powers(drawn: &mut Drawn, list: &mut [u8]) {
     let point = drawn.byte();
     let mut byte = drawn.byte();
@@ -287,8 +301,9 @@ fn drawn_values(drawn: &mut Drawn, marks: &[bool; 208]) -> [u8x32; 16] {
     lanes
 }
 
-/// Whether what is proposed for 32 words with `count` marks from place `first` on, 13 apart, is right for each, so that none
-/// has to be decoded by itself: else answers stay right and take longer.
+/// Whether what is proposed for 32 words with `count` marks from place `first` on, 13 apart, is right for each, so that
+/// none has to be decoded by itself: else answers stay right and take longer. Sixteen marks go once round the 208
+/// places.
 fn are_patched(drawn: &mut Drawn, first: usize, count: usize) -> bool {
     let mut marks = [false; 208];
     for k in 0..count {

@@ -1,6 +1,6 @@
 //! The values of a polynomial at the powers of alpha, sixteen at once. The highest power comes first.
-//! A term's values at sixteen powers, each times one power of alpha, are its values at the next sixteen. Formulas for low
-//! degrees would need a table and a proof for each degree, and this search for all others.
+//! A term's values at sixteen powers, each times one power of alpha, are its values at the next sixteen. Formulas for
+//! low degrees would need a table and a proof for each degree, and this search for all others.
 ghost use Rattle.std.specs.Prelude.{◌≡◌, ℕ, ◌*◌, ◌<◌, ◌≤◌, length, slice_index};
 ghost use Rattle.coding.specs.Field.{alpha, plus, product, power};
 ghost use Rattle.coding.specs.Words.{value};
@@ -9,7 +9,9 @@ use crate::combining::add_lanes;
 use gf_field::alpha_pow;
 use rs_lanes::{powers, scaled};
 
-/// The polynomial's values at alpha^0, alpha^1, .. : byte `k` is that at alpha^k, for each `k` below `count`.
+/// The polynomial's values at alpha^0, alpha^1, .. : byte `k` is that at alpha^k, for each `k` below `count`. Values
+/// are found in whole groups of sixteen, so the list has room for sixteen groups, and those from `count` on aren't
+/// said.
 pub fn values_at_powers(polynomial: &[u8], count: usize) -> [u8; 256]
     requires room { count ≤ 256 }
     requires short { length polynomial.now ≤ 255 }
@@ -23,7 +25,8 @@ pub fn values_at_powers(polynomial: &[u8], count: usize) -> [u8; 256]
     values
 }
 
-// Adds the values of `coefficient` x^`exponent` to the first `groups` groups of sixteen.
+// Adds the values of `coefficient` x^`exponent` to the first `groups` groups of sixteen; the other groups stay. The
+// values in the next group are those in this one times alpha^(16 `exponent`).
 fn add_term(values: &mut [u8], groups: usize, coefficient: u8, exponent: usize)
     requires room { 16 * groups ≤ length values.old }
     requires short { exponent < 255 }

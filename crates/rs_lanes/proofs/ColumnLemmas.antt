@@ -1,5 +1,5 @@
--- Columns of rows and of vectors: get_or-column, same_columns, what holds of a group of 32 more (group_more), and the row that a
--- lane of vectors by places is (turned_row).
+-- Columns of rows and of vectors: get_or-column, same_columns, what holds of a group of 32 more (group_more), and the
+-- row that a lane of vectors by places is (turned_row).
 use Rattle.std.proofs.Common.{◌≡◌, ℕ, ◌+◌, ◌-◌, ◌<◌, List, [], length, get_or, sym, subst, ◌∙◌, inl, inr, arith}
 use Rattle.std.proofs.Math.ListN.{get_or-map}
 use Rattle.std.proofs.lemmas.List.{length-map}

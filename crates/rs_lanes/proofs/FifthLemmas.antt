@@ -1,6 +1,6 @@
--- Words of five bytes at the fifth roots of one: value-five, the roots (roots), and the sums by which `fifths` has the five
--- values (FifthSums, fifth_sums, each_of_five). The five pieces of a third: value-turned of bytes multiplied by powers
--- first, folded-five, folded-exponent. The exponents below 15: all_exponents.
+-- Words of five bytes at the fifth roots of one: value-five, the roots (roots), and the sums by which `fifths` has the
+-- five values (FifthSums, fifth_sums, each_of_five). The five pieces of a third: value-turned of bytes multiplied by
+-- powers first, folded-five, folded-exponent. The exponents below 15: all_exponents.
 use Rattle.std.proofs.Common.{◌≡◌, ℕ, zero, suc, ◌+◌, ◌*◌, ◌/◌, ◌%◌, ◌<◌, List, [], ◌∷◌, length, get_or, refl, sym, ap, subst, ◌∙◌, inl, inr, arith}
 use Rattle.std.proofs.lemmas.Bool.{cases_eq}
 use Rattle.coding.specs.Field.{alpha, plus, shift, shifted, product, power}
@@ -30,8 +30,8 @@ product-0a a = product-plus a 0xDD 0xD7
 product-44 : (a : ℕ) → a < 256 → product a 0x44 ≡ plus (product a 0x92) (plus (product a 0xD7) a)
 product-44 a byte = product-plus a 0x92 0xD6 ∙ ap (plus (product a 0x92)) (product-plus a 0xD7 1 ∙ ap (plus (product a 0xD7)) (product-one a byte))
 
--- the sums of five bytes that are their word's values at the fifth roots of one. 0x92 is the inverse of 0x44 and 0xDD that of
--- 0x0A, so the values there come from those at their inverses
+-- the sums of five bytes that are their word's values at the fifth roots of one. 0x92 is the inverse of 0x44 and 0xDD
+-- that of 0x0A, so the values there come from those at their inverses
 pub record FifthSums (a0 a1 a2 a3 a4 : ℕ) : Type 0 where
   pub zero : plus a0 (plus (plus a1 a4) (plus a2 a3)) ≡ value (a4 ∷ a3 ∷ a2 ∷ a1 ∷ a0 ∷ []) (power alpha 0)
   pub one : plus (plus (plus a0 (product (plus a1 a2) 0xD7)) a2) (plus (product (plus a1 a4) 0xDD) (product (plus a2 a3) 0x92))

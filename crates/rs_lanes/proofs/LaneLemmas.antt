@@ -1,7 +1,7 @@
--- What the operations on vectors of bytes hold in each lane: HoldsLanes-zip2 of two vectors, HoldsLanes-splat of a vector and one
--- byte, byte_lane of one lane, HoldsLanes-low_nibbles and high_nibble-small of the two nibbles, HoldsLanes-look_up of a table of
--- sixteen at positions below sixteen, whole_table of a table in one vector, HasLanes-zeros of vectors of zeros,
--- either-zero of two lanes joined, and joined-zero of all lanes of a vector.
+-- What the operations on vectors of bytes hold in each lane: HoldsLanes-zip2 of two vectors, HoldsLanes-splat of a
+-- vector and one byte, byte_lane of one lane, HoldsLanes-low_nibbles and high_nibble-small of the two nibbles,
+-- HoldsLanes-look_up of a table of sixteen at positions below sixteen, whole_table of a table in one vector,
+-- HasLanes-zeros of vectors of zeros, either-zero of two lanes joined, and joined-zero of all lanes of a vector.
 use Rattle.std.proofs.Common.{◌≡◌, ◌↔◌, ℕ, ◌+◌, ◌*◌, ◌/◌, ◌%◌, ◌<◌, List, [], ◌∷◌, zero, suc, length, get_or, replicate, take, get_or-take, length-take-le, sym, ap, subst, ◌∙◌, arith, w8, Fits, bit_and, bit_or}
 use Rattle.std.specs.Int.Bits.{or_zero_r}
 use Rattle.std.specs.Simd.Lanes.{Each1, zip2, fold_l}

@@ -60,7 +60,8 @@ places_more rows top at before after tile kept set has lanes turned = record {
       ];
 }
 
--- k vectors of a tile have sixteen places from `at` on of two rows each, the one sixteen below the other, and the rows have 182
+-- k vectors of a tile have sixteen places from `at` on of two rows each, the one sixteen below the other, and the rows
+-- have 182
 pub record HasPairs (rows : List (List ℕ)) (top at k : ℕ) (tile : List (List ℕ)) : Type 0 where
   pub size : length tile ≡ 16
   pub upper : (i : ℕ) → i < k → length (line rows (top + i)) ≡ 182

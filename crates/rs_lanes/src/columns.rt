@@ -1,5 +1,12 @@
 //! The columns of an ECC block, 32 at once. A vector has the bytes of one row in 32 columns, so that the rows needn't
 //! be transposed.
+//!
+//! Values are found by thirds. With 47 zeros before it a column is three pieces of 85 bytes. They are added up to one
+//! piece in three ways: each sum, a third, has the values of the column at those alpha^k whose k has one remainder by
+//! 3. Horner's rule, a row at a time, would take a product for each row and value, 16 times 208. Thirds take less than
+//! a quarter of that: the 208 rows are read once for all values, and 85 places are left. What is done for each row is
+//! inlined, so that its vectors needn't pass through memory. In contracts `filled 208` is a column followed by zeros,
+//! up to 208 places. A vector is a list there, whose length its type doesn't say: so `lanes` says it.
 ghost use Rattle.std.specs.Prelude.{◌≡◌, ℕ, ◌+◌, ◌<◌, ◌≤◌, List, ◌++◌, length, map, slice_index, EachIndex, All};
 ghost use Rattle.coding.specs.Field.{alpha, power};
 ghost use Rattle.coding.specs.Words.{IsByte, IsEncoded, value};
@@ -15,7 +22,8 @@ use crate::row::Row;
 use crate::thirds::{thirds_of, values_of};
 use std::simd::prelude::*;
 
-/// Sets sixteen rows to the outer parity of 192 rows: each column is then followed by its parity.
+/// Sets all bytes of sixteen rows to the outer parity of 192 rows: each column is then followed by its parity. What
+/// they had isn't read.
 pub fn outer_parity(rows: &[[u8; 182]], parity: &mut [[u8; 182]])
     requires rows { length rows.now ≡ 192 }
     requires parity { length parity.old ≡ 16 }
@@ -26,12 +34,15 @@ pub fn outer_parity(rows: &[[u8; 182]], parity: &mut [[u8; 182]])
     for group in 0..5 {
         put_parity(rows, 32 * group, parity);
     }
-    // 182 is no multiple of 32: the last 32 columns repeat ten of the group before.
+    // 182 is no multiple of 32: the last 32 columns repeat ten of the group before, whose bytes are set again alike.
     put_parity(rows, 150, parity);
 }
 
 /// The values of the 32 columns from `at` on of 208 rows at alpha^0 to alpha^15, a vector for each of these powers:
-/// that of column `at + n` is in lane `n`. Also ensures that the elements of the columns are bytes.
+/// that of column `at + n` is in lane `n`. A column is a codeword where all are 0, and for a decoder they are the
+/// syndromes. The rows are only read, and may be a decoder's answers, with more than their bytes. The thirds serve all
+/// sixteen values, so that each row is read once. Also ensures that the elements of the columns are bytes,
+/// which a codeword has to be made of.
 pub fn column_values<T: Row>(rows: &[T], at: usize) -> [u8x32; 16]
     requires at { at + 32 ≤ 182 }
     requires rows { length rows.now ≡ 208 }
@@ -46,7 +57,7 @@ pub fn column_values<T: Row>(rows: &[T], at: usize) -> [u8x32; 16]
 
 /// The outer parity of the 32 columns from `at` on of 192 rows, a vector for each of its sixteen bytes. Lane `n` is for
 /// column `at + n`. A parity has the same values as its column with zeros in its place: the sum of both is then 0 at
-/// each root.
+/// each root. It is public for callers that write the parity elsewhere than in rows.
 pub fn parity_of_columns(rows: &[[u8; 182]], at: usize) -> [u8x32; 16]
     requires at { at + 32 ≤ 182 }
     requires rows { length rows.now ≡ 192 }
@@ -58,7 +69,7 @@ pub fn parity_of_columns(rows: &[[u8; 182]], at: usize) -> [u8x32; 16]
     parity_of(&PO_MATRIX, &values_of(&thirds))
 }
 
-// Sets the outer parity of the 32 columns from `at` on. All else stays.
+// Sets the outer parity of the 32 columns from `at` on. All else stays: groups of columns may share some.
 fn put_parity(rows: &[[u8; 182]], at: usize, parity: &mut [[u8; 182]])
     requires at { at + 32 ≤ 182 }
     requires rows { length rows.now ≡ 192 }
@@ -88,8 +99,8 @@ fn put_vectors(vectors: &[u8x32; 16], at: usize, parity: &mut [[u8; 182]])
     }
 }
 
-// Sets the 32 places from `at` on in a row. Also ensures that the row has 182 places. It is passed by itself, since of
-// a row in a list this isn't known.
+// Sets the 32 places from `at` on in a row. Also ensures that the row has 182 places. It is passed by itself, as an
+// array, since of a row in a list this isn't known.
 #[inline(always)]
 fn put_lanes(lanes: u8x32, row: &mut [u8; 182], at: usize)
     requires { at + 32 ≤ 182 }
@@ -101,7 +112,7 @@ fn put_lanes(lanes: u8x32, row: &mut [u8; 182], at: usize)
     store(lanes, row, at);
 }
 
-// The 32 bytes of a row from place `at` on.
+// The 32 bytes of a row from place `at` on. An array is passed, so that its length is known to suffice.
 #[inline(always)]
 fn lanes_at(row: &[u8; 182], at: usize) -> u8x32
     requires { at + 32 ≤ 182 }
@@ -110,8 +121,9 @@ fn lanes_at(row: &[u8; 182], at: usize) -> u8x32
     load(row, at)
 }
 
-// Sets the thirds to those of the 32 columns from `at` on, of 208 rows or of fewer with zeros below. Also ensures that
-// the elements of the columns are bytes.
+// Sets all thirds to those of the 32 columns from `at` on, of 208 rows or of fewer with zeros below. Place `place` of a
+// third is made of that place of the three pieces. They are put where the caller has them, so that 8,160 bytes needn't
+// be copied. Also ensures that the elements of the columns are bytes.
 #[inline(always)]
 fn put_thirds<T: Row>(rows: &[T], at: usize, thirds: &mut [[u8x32; 3]; 85])
     requires at { at + 32 ≤ 182 }

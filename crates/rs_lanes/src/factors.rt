@@ -1,12 +1,13 @@
-//! The tables for vectors of sixteen points: the products of each byte with each nibble, and the powers of each power
-//! of alpha. Vectors look up each lane in a table of sixteen bytes. So a product with a constant needs two tables of
-//! its own, one for each half of a byte.
+//! The tables for vectors: the products of each byte with each nibble, and the powers of each power of alpha. Vectors
+//! look up each lane in a table of sixteen bytes. So a product with a constant needs two tables of its own, one for
+//! each half of a byte. That all entries are right is proved by computing them from the definitions of product and
+//! power.
 ghost use Rattle.std.specs.Prelude.{◌≡◌, ℕ, ◌*◌, ◌<◌, slice_index};
 ghost use Rattle.coding.specs.Field.{alpha, power};
 ghost use Rattle.rs_lanes.specs.Inner.Tables.{IsTable};
 
 // Rows of sixteen multiples, by six of each: those by 1, 2, 3, 4, 8 and 12. The others are sums of two of these, since
-// a product is linear in each of its factors.
+// a product is linear in each of its factors. Without those by 3 and 12 some would be sums of four.
 macro_rules! multiples {
     ($($one:literal $two:literal $three:literal $four:literal $eight:literal $twelve:literal)*) => {
         [$([
@@ -462,7 +463,8 @@ static POWERS: [[u8; 16]; 255] = rows!(
     0x01 0x47 0xD8 0x36 0x83 0xE9 0x7D 0x58 0x16 0x8B 0xEB 0xF3 0xF5 0x7A 0x90 0x24
     0x01 0x8E 0x47 0xAD 0xD8 0x6C 0x36 0x1B 0x83 0xCF 0xE9 0xFA 0x7D 0xB0 0x58 0x2C);
 
-/// The products of a factor with the sixteen low nibbles, and those with the sixteen high ones.
+/// The products of a factor with the sixteen low nibbles, and those with the sixteen high ones: row 0 and row 1. It is
+/// inlined, as `powers_of` is, so that a factor that is a constant stays one.
 #[inline(always)]
 pub fn products(factor: u8) -> [[u8; 16]; 2]
     ensures { IsTable factor result }
@@ -473,7 +475,7 @@ pub fn products(factor: u8) -> [[u8; 16]; 2]
     ]
 }
 
-/// The first sixteen powers of alpha^`exponent`.
+/// The first sixteen powers of alpha^`exponent`, from the power 0 on. An exponent from 255 on repeats an earlier one.
 #[inline(always)]
 pub fn powers_of(exponent: usize) -> [u8; 16]
     requires { exponent < 255 }

@@ -1,5 +1,10 @@
-//! The five pieces of a third, added up for its five exponents k at once. The 17th powers of alpha^k are one of them
-//! times the fifth roots of one, so the sums are values of words of five bytes at these roots.
+//! The five pieces of a third, added up for its five exponents k at once. A third is a word of 85 bytes, whose values
+//! are asked for at the alpha^k with k below 15 and k mod 3 = i; its pieces have seventeen bytes. Horner's rule over
+//! pieces needs the 17th power of alpha^k. These five powers are one of them times the fifth roots of one, so the sums
+//! are values of words of five bytes at these roots.
+//! A turn is a product with alpha^85. This is a third root of one, so three turns change nothing.
+//! All is inlined: factors are constants then, and vectors needn't pass through memory.
+//! In contracts `folded` is a third's pieces added up to one by Horner's rule in a factor.
 ghost use Rattle.std.specs.Prelude.{ℕ, ◌*◌, ◌<◌, [], ◌∷◌, slice_index};
 ghost use Rattle.coding.specs.Field.{alpha, plus, product, power};
 ghost use Rattle.coding.specs.Words.{value};
@@ -11,10 +16,11 @@ use crate::factors::{powers_of, products};
 use crate::lanes::{times, xor};
 use std::simd::prelude::*;
 
-/// One place of the five pieces of the third with number `i`, added up to one by Horner's rule in the 17th power of
+/// One place of the five pieces of the third with number `i`, added up to one as by Horner's rule in the 17th power of
 /// alpha^k: result `m` for the exponent k with number `m`. With k = 10 i + 3 m the 17th power of alpha^k is
-/// alpha^(170 i) times alpha^(51 m). So piece j is multiplied by alpha^(170 i j) first, in 2 i j turns. What is left
-/// for each m is a fifth root of one.
+/// alpha^(170 i) times alpha^(51 m). So piece j, counted from the last one, whose power is 1, is multiplied by
+/// alpha^(170 i j) first, in 2 i j turns. What is left for each m is a fifth root of one.
+/// The 10 is there since 17 times 10 is twice 85: so turns serve all five exponents at once.
 #[inline(always)]
 pub fn folded_places(thirds: &[[u8x32; 3]; 85], i: usize, place: usize) -> [u8x32; 5]
     requires third { i < 3 }
@@ -37,7 +43,8 @@ fn turned(lanes: u8x32, turns: usize) -> u8x32
     ensures turned { HasLanes result (λ j. product (slice_index lanes j) (power alpha (85 * turns))) }
     ensures bytes { (j : ℕ) → j < 32 → slice_index lanes j < 256 }
 {
-    // alpha^255 is 1, so every third power needs no product.
+    // alpha^255 is 1, so every third power needs no product. Where all is inlined `turns` is a constant, and no branch
+    // is left.
     let rest = turns % 3;
     if rest == 0 {
         lanes
@@ -47,13 +54,17 @@ fn turned(lanes: u8x32, turns: usize) -> u8x32
 }
 
 // The values of each lane's word `y4 y3 y2 y1 y0` at the fifth roots of one: result `m` has those at alpha^(51 `m`).
+// A product for each of four bytes and each root but 1 would be sixteen. Roots in pairs with their inverses need six.
 #[inline(always)]
 fn fifths(y0: u8x32, y1: u8x32, y2: u8x32, y3: u8x32, y4: u8x32) -> [u8x32; 5]
     ensures { (m : ℕ) → m < 5 → HasLanes (line result m) (λ j.
         value (slice_index y4 j ∷ slice_index y3 j ∷ slice_index y2 j ∷ slice_index y1 j ∷ slice_index y0 j ∷ []) (power alpha (51 * m))) }
 {
     // The roots other than 1 are 0x0A and its inverse 0xDD, 0x44 and its inverse 0x92. 0x0A and 0xDD add up to 0xD7,
-    // 0x44 and 0x92 to 0xD7 + 1. So a product with 0xD7 makes a sum with one root into that with its inverse.
+    // 0x44 and 0x92 to 0xD7 + 1. So a product with 0xD7 makes a sum with one root into that with its inverse. `crossed`
+    // is what both values share once y1 and y2 are multiplied by the inverses instead: y1 then goes with y4, y2 with
+    // y3. `first` is the value at 0x0A, and the last one, at 0xDD, comes of it. `second` is that at 0x44, and gives
+    // 0x92's.
     let ends = xor(y1, y4);
     let middle = xor(y2, y3);
     let both = xor(ends, middle);

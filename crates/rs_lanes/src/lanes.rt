@@ -1,5 +1,9 @@
-//! Vectors of 32 bytes, lane by lane. Each operation is a function of its own, so that a contract says once what
-//! happens in each lane.
+//! Vectors of 32 bytes, lane by lane: a lane is one byte of a vector. Each operation is a function of its own, so that
+//! a contract says once what happens in each lane.
+//! In contracts a vector is a list of numbers, and its type doesn't say how many. So a clause says where there are 32:
+//! `size`, or `HasLanes`, which says what each lane has too. Contracts of what other crates use don't cite `HasLanes`.
+//! Those are `load`, `store`, `any_of`, `are_zeros`, `multiple` and `with_multiple`; the rest serves this crate.
+//! All is inlined, so that vectors needn't pass through memory, and a factor that is a constant stays one.
 ghost use Rattle.std.specs.Prelude.{◌≡◌, ◌↔◌, ℕ, IsTrue, ◌+◌, ◌*◌, ◌/◌, ◌%◌, ◌<◌, ◌≤◌, length, slice_index};
 ghost use Rattle.coding.specs.Field.{plus, product};
 ghost use Rattle.coding.specs.Rows.{place};
@@ -18,7 +22,7 @@ pub fn xor(a: u8x32, b: u8x32) -> u8x32
 }
 
 /// Lanes that are zero exactly where those of every vector are. So 32 words are tested by one vector: a lane is zero
-/// only where all values of its word are.
+/// only where all values of its word are. What a lane has otherwise isn't said, since only zero or not is asked for.
 #[inline(always)]
 pub fn any_of<const R: usize>(vectors: &[u8x32; R]) -> u8x32
     ensures size { length result ≡ 32 }
@@ -63,7 +67,8 @@ pub fn store(lanes: u8x32, row: &mut [u8], at: usize)
 }
 
 /// The product of each lane and the factor of the table. A product is linear: it is the sum of those with the low and
-/// with the high half of the lane.
+/// with the high half of the lane. The table has all that is needed of the factor: its products with the sixteen low
+/// nibbles, and with the sixteen high ones.
 #[inline(always)]
 pub fn times(table: &[[u8; 16]; 2], lanes: u8x32) -> u8x32
     ensures { (factor : ℕ) → IsTable factor table.now → HasLanes result (λ k. product (slice_index lanes k) factor) }
@@ -74,7 +79,7 @@ pub fn times(table: &[[u8; 16]; 2], lanes: u8x32) -> u8x32
     )
 }
 
-/// The product of each lane and a factor.
+/// The product of each lane and a factor. It is public for other crates, which have no tables.
 #[inline(always)]
 pub fn multiple(lanes: u8x32, factor: u8) -> u8x32
     ensures size { length result ≡ 32 }
@@ -101,7 +106,8 @@ fn either(a: u8x32, b: u8x32) -> u8x32
     a | b
 }
 
-// The table's entries at the low four bits of each lane.
+// The table's entries at the low four bits of each lane. A look-up asks for numbers below sixteen, so the others are
+// cleared.
 #[inline(always)]
 fn by_low_nibble(table: &[u8; 16], lanes: u8x32) -> u8x32
     ensures { HasLanes result (λ k. slice_index table.now (slice_index lanes k % 16)) }
@@ -109,7 +115,7 @@ fn by_low_nibble(table: &[u8; 16], lanes: u8x32) -> u8x32
     twice(table).swizzle_dyn_within::<16>(lanes & u8x32::splat(15))
 }
 
-// The table's entries at the high four bits of each lane.
+// The table's entries at the high four bits of each lane. A shift by four leaves no others.
 #[inline(always)]
 fn by_high_nibble(table: &[u8; 16], lanes: u8x32) -> u8x32
     ensures { HasLanes result (λ k. slice_index table.now (slice_index lanes k / 16)) }
@@ -117,7 +123,8 @@ fn by_high_nibble(table: &[u8; 16], lanes: u8x32) -> u8x32
     twice(table).swizzle_dyn_within::<16>(lanes >> u8x32::splat(4))
 }
 
-// The table in both halves of a vector. A look-up reaches the sixteen entries in its own half alone.
+// The table in both halves of a vector. A look-up reaches the sixteen entries in its own half alone, as the
+// instruction of the processor does.
 #[inline(always)]
 fn twice(table: &[u8; 16]) -> u8x32
     ensures { HasLanes result (λ k. slice_index table.now (k % 16)) }

@@ -1,6 +1,7 @@
 //! The parity of a word by its values. Each code has a matrix. Its column `k` is the word that has the value 1 at
 //! alpha^k, and 0 at the other powers of alpha below the number of parity bytes. So a parity is a sum of multiples of
-//! columns, without a division: each lane of a vector can have a word of its own.
+//! columns, without a division: each lane of a vector can have a word of its own. A matrix is a list of rows, one for
+//! each byte of the parity. That its columns have these values is proved by computing them: a wrong entry is refused.
 
 /// The matrix of the ten bytes of inner parity.
 pub static PI_MATRIX: [[u8; 10]; 10] = [

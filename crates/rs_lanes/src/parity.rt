@@ -1,7 +1,7 @@
 //! The parity of words in 32 lanes, as a sum: for each of their values, a multiple of the column that a matrix has for
 //! it.
 //! The parity is the word that has the same values as its message followed by zeros. Both together are then zero at
-//! each root.
+//! each root. Both functions are inlined, so that vectors needn't pass through memory.
 ghost use Rattle.std.specs.Prelude.{◌≡◌, ℕ, ◌<◌, length, slice_index, EachIndex, All};
 ghost use Rattle.coding.specs.Field.{alpha, plus, product, power};
 ghost use Rattle.coding.specs.Words.{IsByte, value};
@@ -12,7 +12,9 @@ ghost use Rattle.rs_lanes.specs.Inner.Parity.{IsBasis};
 use crate::lanes::with_multiple;
 use std::simd::prelude::*;
 
-/// The words of `R` bytes with these values at alpha^0 to alpha^(`R` - 1), one in each lane.
+/// The words of `R` bytes with these values at alpha^0 to alpha^(`R` - 1), one in each lane: vector `i` has byte `i` of
+/// all. The clause on values is for a matrix whose column k has the value 1 at alpha^k and 0 at the others, as both of
+/// `matrices` are proved to have. The values have to be bytes, since products are bytes and couldn't give others.
 #[inline(always)]
 pub fn parity_of<const R: usize>(matrix: &[[u8; R]; R], values: &[u8x32; R]) -> [u8x32; R]
     requires { (k j : ℕ) → k < R → j < 32 → place values.now k j < 256 }
@@ -28,7 +30,8 @@ pub fn parity_of<const R: usize>(matrix: &[[u8; R]; R], values: &[u8x32; R]) -> 
     parity
 }
 
-// Adds to each place the value with number `k`, multiplied by its coefficient there.
+// Adds to each place `i` the value with number `k`, times entry `k` of row `i`: so all lanes get a multiple of column
+// `k`.
 #[inline(always)]
 fn add_multiples<const R: usize>(
     matrix: &[[u8; R]; R],

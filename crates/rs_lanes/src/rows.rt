@@ -1,5 +1,13 @@
 //! The rows of an ECC block, 32 at once. They are transposed first, so that each lane has a row of its own and one step
 //! is done for 32 rows at once.
+//!
+//! Values are found by thirds. With 73 zeros before it a row is three pieces of 85 bytes. They are added up to one
+//! piece in three ways: each sum, a third, has the values of the row at those alpha^k whose k has one remainder by 3.
+//! That takes little more than a third of the products of Horner's rule, which has one for each of 182 places and ten
+//! values. The parity is the word that has the values of its message followed by zeros: both together are 0 at each
+//! root. Where vectors begin as zeros, these are all overwritten. What is done for each place or row is inlined, so
+//! that vectors needn't pass through memory. In contracts `filled 182` is a word followed by zeros, up to 182 places.
+//! A vector is a list there, whose length its type doesn't say: so `lanes` says it.
 ghost use Rattle.std.specs.Prelude.{◌≡◌, ℕ, ◌+◌, ◌<◌, ◌≤◌, List, ◌++◌, length, take, slice_index, EachIndex, All};
 ghost use Rattle.coding.specs.Field.{alpha, power};
 ghost use Rattle.coding.specs.Words.{IsByte, IsEncoded, value};
@@ -13,7 +21,8 @@ use crate::thirds::{thirds_of, values_of};
 use crate::transposing::transpose;
 use std::simd::prelude::*;
 
-/// Sets the last ten bytes of the 32 rows from `top` on so that these rows are codewords. All else stays.
+/// Sets the last ten bytes of the 32 rows from `top` on so that these rows are codewords. All else stays. The ten bytes
+/// that were there aren't read.
 pub fn inner_parity(rows: &mut [[u8; 182]], top: usize)
     requires { top + 32 ≤ length rows.old }
     ensures size { length rows.new ≡ length rows.old }
@@ -33,7 +42,8 @@ pub fn inner_parity(rows: &mut [[u8; 182]], top: usize)
 }
 
 /// The values of the 32 rows from `top` on at alpha^0 to alpha^9, a vector for each of these powers: that of row
-/// `top + n` is in lane `n`. Also ensures that the rows are 182 bytes each.
+/// `top + n` is in lane `n`. A row is a codeword where all are 0, and for a decoder they are the syndromes.
+/// Also ensures that the rows are 182 bytes each, since of rows in a list callers don't know it.
 pub fn row_values(rows: &[[u8; 182]], top: usize) -> [u8x32; 10]
     requires { top + 32 ≤ length rows.now }
     ensures sizes { (n : ℕ) → n < 32 → length (line rows.now (top + n)) ≡ 182 }
@@ -47,7 +57,8 @@ pub fn row_values(rows: &[[u8; 182]], top: usize) -> [u8x32; 10]
 }
 
 /// Likewise for 32 transposed words, where each vector has one place of all words: the values of word `n` are in lane
-/// `n`.
+/// `n`. It is public for callers that store columns: 32 bytes of a column are such a vector, and nothing is transposed.
+/// Also ensures that the elements of the words are bytes, which a codeword has to be made of.
 pub fn transposed_values(transposed: &[u8x32; 182]) -> [u8x32; 10]
     ensures bytes { (n : ℕ) → n < 32 → All IsByte (column transposed.now n) }
     ensures lanes { EachIndex result (λ k. length (line result k) ≡ 32) }
@@ -71,8 +82,9 @@ fn put_end(parity: &[u8x32; 10], n: usize, row: &mut [u8; 182])
     }
 }
 
-// Sets the thirds to those of words of 182 bytes, which have zeros from place `count` on. Also ensures that the other
-// elements are bytes.
+// Sets all thirds to those of words of 182 bytes, which have zeros from place `count` on: 172 where the parity isn't
+// known yet, else 182. Place `place` of a third is made of that place of the three pieces. They are put where the
+// caller has them, so that 8,160 bytes needn't be copied. Also ensures that the other elements are bytes.
 #[inline(always)]
 fn put_thirds(transposed: &[u8x32; 182], count: usize, thirds: &mut [[u8x32; 3]; 85])
     requires { count ≤ 182 }
@@ -104,7 +116,7 @@ fn padded(transposed: &[u8x32; 182], count: usize, at: usize) -> u8x32
     }
 }
 
-// The vector of a place below `count`, or zeros.
+// The vector of a place below `count`, or zeros: from there on the parity comes, in whose place zeros are read.
 #[inline(always)]
 fn lanes_or_zeros(transposed: &[u8x32; 182], count: usize, at: usize) -> u8x32
     requires { count ≤ 182 }

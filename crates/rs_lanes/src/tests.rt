@@ -10,6 +10,8 @@ use std::simd::prelude::*;
 use std::test::Fail;
 
 /// Drawn bytes: each is the top eight bits of a state of 64 bits, to which three shifts of itself were added.
+/// With shifts by 13, 7 and 17 all states but 0 come before one comes again; the first is any of them. The other
+/// program draws the same.
 #[derive(Drop)]
 struct Drawn {
     state: u64,
@@ -54,6 +56,7 @@ fn drawn_rows(
     Ok(rows)
 }
 
+// Sets one byte. A clause says that the number of rows stays, which a loop has to know.
 fn put_byte(rows: &mut [[u8; 182]], i: usize, j: usize, byte: u8)
     requires row { i < length rows.old }
     requires place { j < 182 }
@@ -62,6 +65,7 @@ fn put_byte(rows: &mut [[u8; 182]], i: usize, j: usize, byte: u8)
     rows[i][j] = byte;
 }
 
+// Sets column `j` to a word, as far as there are rows for it.
 fn put_column(rows: &mut [[u8; 182]], j: usize, word: &[u8; 208])
     requires { j < 182 }
 {
@@ -70,6 +74,7 @@ fn put_column(rows: &mut [[u8; 182]], j: usize, word: &[u8; 208])
     }
 }
 
+// Column `j`, as far as there are rows, and zeros for the others.
 fn column(rows: &[[u8; 182]], j: usize) -> [u8; 208]
     requires { j < 182 }
 {
@@ -80,6 +85,7 @@ fn column(rows: &[[u8; 182]], j: usize) -> [u8; 208]
     word
 }
 
+// The digest of the inner parity of all rows, one after the other, as the other program has it for these words.
 fn parity_of_rows(rows: &[[u8; 182]]) -> [u8; 32] {
     let mut hasher = Sha256::new();
     for row in rows {
@@ -88,6 +94,7 @@ fn parity_of_rows(rows: &[[u8; 182]]) -> [u8; 32] {
     hasher.finalize()
 }
 
+// The digest of the outer parity of the first `count` columns, likewise.
 fn parity_of_columns(rows: &[[u8; 182]], count: usize) -> [u8; 32]
     requires { count ≤ 182 }
 {
@@ -126,6 +133,7 @@ fn rows_get_the_parity_of_drawn_words(rt: HostRuntime) -> Result<(), Fail> {
     inner_parity(&mut rows, 0);
     inner_parity(&mut rows, 32);
     inner_parity(&mut rows, 64);
+    // Row 99 is in none of these groups. The last 32 rows share some with the group before.
     assert!(rt; rows[99] != encoded);
     inner_parity(&mut rows, 68);
     assert!(rt; rows[99] == encoded);
@@ -139,6 +147,7 @@ fn rows_get_the_parity_of_drawn_words(rt: HostRuntime) -> Result<(), Fail> {
 #[test]
 fn rows_have_the_values_of_drawn_words(rt: HostRuntime) -> Result<(), Fail> {
     let mut rows = drawn_rows(rt.alloc(), 40, 5, 182)?;
+    // A group may begin at any row.
     let values = row_values(&rows, 7);
     for n in 0..32 {
         let syndromes = Pi::new().syndromes(&rows[7 + n]);
@@ -221,6 +230,8 @@ fn lanes_are_powers(rt: HostRuntime) -> Result<(), Fail> {
     Ok(())
 }
 
+/// A byte that isn't 0 shows in the lane of its own row, and of its own column, and in no other: at each row, and at
+/// each place of a row.
 #[test]
 fn a_byte_at_any_place_is_told(rt: HostRuntime) -> Result<(), Fail> {
     let mut rows = empty_rows(rt.alloc(), 208)?;

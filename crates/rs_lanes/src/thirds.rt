@@ -3,6 +3,13 @@
 //! of these three the pieces are added up to one first; this sum is called a third. A third serves five exponents below
 //! 15, and its own five pieces are added up for all of them at once (`fifths`). What is left for each exponent is
 //! Horner's rule on 17 bytes.
+//! Horner's rule on the word itself takes a product for each byte and each value: 16 times 208 for columns, 10 times
+//! 182 for rows. Here thirds take 85, fifths 408, and the last steps 17 for each value: about 770 for columns, 660 for
+//! rows.
+//! All is inlined: exponents are constants then, and vectors needn't pass through memory. Where a function also ensures
+//! that lanes are bytes, this is for callers' proofs, in which a vector is a list of numbers.
+//! In contracts `third thirds i j` is the third with number i in lane j, as a list, and `exponent_at i m` its exponent
+//! with number m.
 ghost use Rattle.std.specs.Prelude.{◌≡◌, ◌≢◌, ◌↔◌, ℕ, ◌%◌, ◌<◌, ◌≤◌, length, slice_index};
 ghost use Rattle.coding.specs.Field.{alpha, plus, product, power};
 ghost use Rattle.coding.specs.Words.{value};
@@ -15,7 +22,8 @@ use crate::fifths::folded_places;
 use crate::lanes::{times, xor};
 use std::simd::prelude::*;
 
-/// One place of the three thirds, by that place of the three pieces. Also ensures that the lanes of these are bytes.
+/// One place of the three thirds, by that place of the three pieces, the first piece first. Third `i` is Horner's rule
+/// in alpha^(85 i). Also ensures that the lanes of these are bytes.
 #[inline(always)]
 pub fn thirds_of(a: u8x32, b: u8x32, c: u8x32) -> [u8x32; 3]
     ensures thirds { (i : ℕ) → i < 3 → HasLanes (line result i) (λ j. third_byte i (slice_index a j) (slice_index b j) (slice_index c j)) }
@@ -27,7 +35,8 @@ pub fn thirds_of(a: u8x32, b: u8x32, c: u8x32) -> [u8x32; 3]
     [xor(sum, c), xor(shared, xor(a, c)), xor(shared, xor(b, c))]
 }
 
-/// The values of each lane's word at alpha^0 to alpha^(`R` - 1).
+/// The values of each lane's word at alpha^0 to alpha^(`R` - 1): ten for a row, and sixteen for a column. The clause
+/// speaks of the third that serves each power, as the word isn't known here. Callers' thirds have the word's values.
 #[inline(always)]
 pub fn values_of<const R: usize>(thirds: &[[u8x32; 3]; 85]) -> [u8x32; R]
     requires { R ≤ 16 }
@@ -42,7 +51,8 @@ pub fn values_of<const R: usize>(thirds: &[[u8x32; 3]; 85]) -> [u8x32; R]
     all
 }
 
-// Sets the values at the five exponents of the third with number `i`, where these are below `R`.
+// Sets the values at the five exponents of the third with number `i`, where these are below `R`. Those that aren't have
+// no place, and were not computed. All values of the two other thirds stay.
 #[inline(always)]
 fn put_values<const R: usize>(values: &[u8x32; 5], i: usize, all: &mut [u8x32; R])
     requires { i < 3 }
@@ -69,8 +79,9 @@ fn put_last_value<const R: usize>(thirds: &[[u8x32; 3]; 85], all: &mut [u8x32; R
     }
 }
 
-// The values of each lane's third with number `i` at its powers of alpha that are below alpha^`count`. The others stay
-// zeros: a row needs ten values, and a column sixteen. A third has five pieces of seventeen places.
+// The values of each lane's third with number `i` at its five exponents, as far as these are below `count`. The others
+// stay zeros: a row needs ten values, and a column sixteen. A third has five pieces of seventeen places: each place of
+// the pieces is added up for all five exponents, and then read by a step of Horner's rule at each.
 #[inline(always)]
 fn values(thirds: &[[u8x32; 3]; 85], i: usize, count: usize) -> [u8x32; 5]
     requires { i < 3 }
@@ -85,7 +96,7 @@ fn values(thirds: &[[u8x32; 3]; 85], i: usize, count: usize) -> [u8x32; 5]
 }
 
 // The value of each lane's word at alpha^15. The 17th power of alpha^15 is 1, so the five pieces are added up as for
-// alpha^0.
+// alpha^0: the first of the five sums is read, and the count 16 only lets the step for 15 be taken.
 #[inline(always)]
 fn last_value(thirds: &[[u8x32; 3]; 85]) -> u8x32
     ensures { HasLanes result (λ j. value (third thirds.now 0 j) (power alpha 15)) }
@@ -97,8 +108,8 @@ fn last_value(thirds: &[[u8x32; 3]; 85]) -> u8x32
     value
 }
 
-// A step of Horner's rule at each power of alpha of a third that is below alpha^`count`. Also ensures that the next
-// lanes are bytes.
+// A step of Horner's rule at each exponent of a third that is below `count`; the other values stay. Also ensures that
+// the next lanes are bytes.
 #[inline(always)]
 fn read_places(values: &mut [u8x32; 5], next: &[u8x32; 5], i: usize, count: usize)
     requires { i < 3 }
@@ -111,7 +122,8 @@ fn read_places(values: &mut [u8x32; 5], next: &[u8x32; 5], i: usize, count: usiz
     }
 }
 
-// A step of Horner's rule at alpha^`k`, where `k` is below `count`. Also ensures that the next lanes are bytes.
+// A step of Horner's rule at alpha^`k`, where `k` is below `count`; else the value as it is, and no product is spent.
+// Both numbers are constants after inlining. Also ensures that the next lanes are bytes, of either case.
 #[inline(always)]
 fn next_value(k: usize, count: usize, value: u8x32, next: u8x32) -> u8x32
     requires { k < 16 }
@@ -126,7 +138,10 @@ fn next_value(k: usize, count: usize, value: u8x32, next: u8x32) -> u8x32
 }
 
 // The exponent with number `m` of a third. The five are those with the remainder `i` by 3, in the order in which
-// `fifths` has their values.
+// `fifths` has their values: their 17th powers are that of the first one times the powers of alpha^51, one by one. They
+// depend on the remainder of the exponent by 15 alone, since alpha^255 is 1.
+// The first one is 10 i, which has this remainder too: its 17th power is alpha^(170 i), a third root of one. So of the
+// four pieces that `fifths` multiplies by its powers one needs no product. From i on all four would.
 #[inline(always)]
 fn exponent(i: usize, m: usize) -> usize
     requires third { i < 3 }

@@ -1,5 +1,11 @@
 //! 32 rows, transposed: vector `k` has place `k` of each row. Bytes of one row are then in one lane, and a step for all
 //! 32 rows is a step for one vector.
+//!
+//! This is done by tiles: a tile is sixteen vectors, with sixteen places of 32 rows. Its lower half is lanes 0 to 15 of
+//! all vectors, and its upper half lanes 16 to 31. Each half is a square of sixteen times sixteen bytes, and a square
+//! is transposed by four equal steps, each a riffle: two halves of a deck are put into one another, card by card. So
+//! each step moves 32 bytes at once, and no byte by itself. The steps are inlined, so that a tile stays in registers.
+//! That a vector has 32 lanes is said in clauses, since in contracts its type doesn't say it.
 ghost use Rattle.std.specs.Prelude.{◌≡◌, ℕ, ◌+◌, ◌*◌, ◌/◌, ◌%◌, ◌<◌, ◌≤◌, length, map, slice_index, EachIndex};
 ghost use Rattle.coding.specs.Rows.{line, place};
 ghost use Rattle.rs_lanes.specs.Inner.Transposing.{IsRiffled, IsTransposed};
@@ -7,7 +13,8 @@ ghost use Rattle.rs_lanes.specs.Inner.Transposing.{IsRiffled, IsTransposed};
 use crate::row::Row;
 use std::simd::prelude::*;
 
-// Sets the vectors to the places of the 32 rows from `top` on. Also ensures that these rows have 182 places.
+// Sets all vectors to the places of the 32 rows from `top` on. Also ensures that these rows have 182 places, as callers
+// know it of no row in a list. What the vectors had isn't read.
 pub(crate) fn transpose<T: Row>(rows: &[T], top: usize, transposed: &mut [u8x32; 182])
     requires { top + 32 ≤ length rows.now }
     ensures sizes { (n : ℕ) → n < 32 → length (line (map T.word rows.now) (top + n)) ≡ 182 }
@@ -25,7 +32,7 @@ pub(crate) fn transpose<T: Row>(rows: &[T], top: usize, transposed: &mut [u8x32;
     put_tile(&load_transposed(rows, top, 166), 166, transposed);
 }
 
-// Sets sixteen vectors. All others stay.
+// Sets the sixteen vectors from `at` on. All others stay, so that tiles are put one after the other.
 #[inline(always)]
 fn put_tile(tile: &[u8x32; 16], at: usize, transposed: &mut [u8x32; 182])
     requires { at + 16 ≤ 182 }
@@ -40,7 +47,8 @@ fn put_tile(tile: &[u8x32; 16], at: usize, transposed: &mut [u8x32; 182])
 }
 
 /// Sixteen places, from `at` on, of the 32 rows from `top` on, transposed: vector `k` has place `at + k` of each row.
-/// Also ensures that these rows have 182 places.
+/// Also ensures that these rows have 182 places. It is public for callers that copy or compare sixteen columns and need
+/// no more of the rows.
 #[inline(always)]
 pub fn load_transposed<T: Row>(rows: &[T], top: usize, at: usize) -> [u8x32; 16]
     requires top { top + 32 ≤ length rows.now }
@@ -52,8 +60,9 @@ pub fn load_transposed<T: Row>(rows: &[T], top: usize, at: usize) -> [u8x32; 16]
     transpose_tile(&load_tile(rows, top, at))
 }
 
-// Sixteen places of 32 rows: the upper sixteen rows in the lower halves of the vectors, and the others in the upper
-// halves. Sixteen bytes of a row are one load. So each half is a square of sixteen, which is transposed by itself.
+// Sixteen places of 32 rows, not transposed yet: vector `k` has row `top + k` in its lower half, and row `top + 16 + k`
+// in its upper half. Sixteen bytes of a row are one load. So each half is a square of sixteen, which is transposed by
+// itself, and lane `n` is then row `top + n` in both.
 #[inline(always)]
 fn load_tile<T: Row>(rows: &[T], top: usize, at: usize) -> [u8x32; 16]
     requires top { top + 32 ≤ length rows.now }
@@ -83,7 +92,8 @@ fn pair_at(one: &[u8; 182], other: &[u8; 182], at: usize) -> u8x32
     load_pair(one, other, at)
 }
 
-// Sixteen bytes of each of two slices, one after the other.
+// Sixteen bytes of each of two slices, from `at` on, one after the other. It is about slices of any length: that the
+// arrays of `pair_at` are long enough follows from their own length.
 #[inline(always)]
 fn load_pair(one: &[u8], other: &[u8], at: usize) -> u8x32
     requires one { at + 16 ≤ length one.now }
@@ -101,8 +111,8 @@ fn load_pair(one: &[u8], other: &[u8], at: usize) -> u8x32
     )
 }
 
-// Transposes both halves of a tile. Within a half, the numbers of vector and lane are eight bits together, which each
-// step rotates by one. After four steps the two have changed places.
+// Transposes both halves of a tile. Within a half, the numbers of vector and lane, four bits each, are eight bits
+// together, which each step rotates by one. After four steps the two have changed places; three or five would not do.
 #[inline(always)]
 fn transpose_tile(tile: &[u8x32; 16]) -> [u8x32; 16]
     requires { EachIndex tile.now (λ k. length (line tile.now k) ≡ 32) }
@@ -112,8 +122,9 @@ fn transpose_tile(tile: &[u8x32; 16]) -> [u8x32; 16]
     riffle(&riffle(&riffle(&riffle(tile))))
 }
 
-// One of four equal steps: the vectors of the upper half alternate with those of the lower half, lane by lane. No lane
-// leaves its half, so that both halves are transposed at once.
+// One of four equal steps: vectors `k` and `k + 8` become vectors `2 k` and `2 k + 1`, where their lanes alternate: the
+// first eight of each half in one, and the last eight in the other. No lane leaves its half, so that both halves are
+// transposed at once.
 #[inline(always)]
 fn riffle(tile: &[u8x32; 16]) -> [u8x32; 16]
     requires { EachIndex tile.now (λ k. length (line tile.now k) ≡ 32) }
@@ -128,7 +139,8 @@ fn riffle(tile: &[u8x32; 16]) -> [u8x32; 16]
     riffled
 }
 
-// The first eight lanes of each half of two vectors, alternating.
+// The first eight lanes of each half of two vectors, alternating. In each half this is one instruction of the
+// processor. The lanes of `b` are numbered from 32 on.
 #[inline(always)]
 fn first_lanes(a: u8x32, b: u8x32) -> u8x32
     requires a { length a ≡ 32 }
@@ -146,7 +158,7 @@ fn first_lanes(a: u8x32, b: u8x32) -> u8x32
     )
 }
 
-// The last eight lanes of each half of two vectors, alternating.
+// The last eight lanes of each half of two vectors, alternating, likewise.
 #[inline(always)]
 fn last_lanes(a: u8x32, b: u8x32) -> u8x32
     requires a { length a ≡ 32 }

@@ -1,12 +1,15 @@
 //! The bytes to add at the zeros of 32 locators, by Forney's formula. Let p(x) be the locator, with its highest power
 //! first. Let q(x) be the powers of x from 0 on of the product of p(x) with the sum of each syndrome times x^(-k-1).
-//! Then the bytes are q / p' at the zeros.
+//! Then the bytes are q / p' at the zeros. For fewer than five errors p and q have the same power of x as a factor,
+//! which the quotient cancels.
+//! No function has a clause on its results: whether the bytes are right is tested row by row, in `proposals`.
 use crate::locators::{logs_of_all, sum_at};
 use crate::tower::{Logs, bytes, inverse, logs, pairs, product, squares};
 use std::simd::prelude::*;
 
-/// Sets the bytes at these points. A point 0 means none: it becomes 1 and its byte becomes 0, so that adding it changes
-/// nothing.
+/// Sets the bytes at these points. A point 0 means none: it becomes 1, the point of a row's last place, and its byte
+/// becomes 0, so that adding it changes nothing. All other points stay. Syndromes and taps, the locator's coefficients
+/// after its first, are pairs of nibbles as in `tower`; points and amounts are bytes as in a row.
 pub fn put_amounts(
     syndromes: &[u8x32; 10],
     syndrome_logs: &[Logs; 10],
@@ -28,8 +31,10 @@ pub fn put_amounts(
     }
 }
 
-// The numerator at a point, divided by the derivative there, x^4 + `quadratic` x^2 + `last`. Even powers vanish in a
-// derivative, since a sum of two equal terms is 0.
+// The numerator q at a point, by Horner's rule, divided by the derivative p' there, x^4 + `quadratic` x^2 + `last`.
+// Even powers vanish in a derivative, since a sum of two equal terms is 0, and so the coefficients of x^3 and x are
+// left, the second and the fourth of the taps. The numerator has its coefficient of x^4 first. Where the derivative is
+// 0, the result has no meaning, and its row fails the test. It is inlined, so that vectors needn't pass through memory.
 #[inline(always)]
 fn amount_at(point: u8x32, numerator: &[u8x32; 5], quadratic: &Logs, last: u8x32) -> u8x32 {
     let point_logs = logs(point);

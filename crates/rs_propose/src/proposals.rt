@@ -1,4 +1,7 @@
 //! What is proposed for 32 rows, and the test of it.
+//! Of the proposals themselves no contract says anything: a row is only corrected by one where its test, which is
+//! proved, shows that the result is the codeword near it.
+//! In clauses a vector is a list, whose length its type doesn't say: so they say it where a proof needs it.
 ghost use Rattle.std.specs.Prelude.{◌≡◌, ℕ, ◌-◌, ◌<◌, false, length, replicate, slice_index, take, IfSome, IsTrue};
 ghost use Rattle.coding.specs.Field.{alpha, plus, power, product};
 ghost use Rattle.coding.specs.Words.{IsNear};
@@ -17,8 +20,8 @@ use rs_lanes::{powers, scaled};
 use std::simd::prelude::*;
 
 /// What is proposed for each of 32 rows of 182 bytes, ten of them parity: up to five bytes to add, and the powers of
-/// alpha at their places. A byte 0 at the point 1 is none. They are bytes and not vectors, since they are read row by
-/// row.
+/// alpha at their places, their points. A byte 0 at the point 1 is none. They are bytes and not vectors, since they are
+/// read row by row: entry `n` of each list is for row `n`.
 #[derive(Drop)]
 pub struct Proposals {
     points: [[u8; 32]; 5],
@@ -26,7 +29,8 @@ pub struct Proposals {
 }
 
 impl Proposals {
-    /// No proposal for any row.
+    /// No proposal for any row: adding them changes no row, so for a row that is no codeword nothing is believed.
+    /// Callers begin with these and propose only where it pays.
     pub fn none() -> Self {
         Proposals {
             points: [[1; 32]; 5],
@@ -35,8 +39,8 @@ impl Proposals {
     }
 
     /// Makes proposals for rows that have these values at alpha^0 to alpha^9: lane `n` has those of row `n`. They are
-    /// right for rows with at most five errors; tests show this, and no contract says it. All go through all steps,
-    /// codewords too, since lanes can't branch.
+    /// right for rows with at most five errors; tests show this, and no contract says it, since `believe` tests each.
+    /// All go through all steps, codewords too, since lanes can't branch. Earlier proposals are all overwritten.
     pub fn propose(&mut self, values: &[u8x32; 10]) {
         let mut syndromes = [u8x32::splat(0); 10];
         let mut syndrome_logs = [logs_of_zero(); 10];
@@ -61,7 +65,8 @@ impl Proposals {
     /// Sets `row` to the codeword near a received row without marks, by its syndromes and the proposal for row `n`, if
     /// this is right. It is right if its bytes have the syndromes as their power sums: the row with these bytes added
     /// is then a codeword. This codeword is near the row, since at most five places differ. Otherwise the result is
-    /// `None`, and `row` may be anything.
+    /// `None`, and `row` may be anything: callers then decode the received row, which stays. The syndromes are passed,
+    /// since callers have them from the values that the proposals were made by.
     pub fn believe(
         &self,
         n: usize,
@@ -91,7 +96,9 @@ impl Proposals {
     }
 }
 
-// The place in a row whose power of alpha this is, if there is one. A row with at most five errors has no other points.
+// The place in a row whose power of alpha this is, if there is one: the last place has the exponent 0. A row with at
+// most five errors has no other points. 0 is no power; it isn't proposed, but only this test shows that. It is inlined,
+// as all that `believe` does for each of five bytes is.
 #[inline(always)]
 fn place_of(point: u8) -> Option<usize>
     ensures { IfSome result (λ place. place < 182) }
@@ -102,7 +109,8 @@ fn place_of(point: u8) -> Option<usize>
     181usize.checked_sub(log(point) as usize)
 }
 
-// The power sums with one more byte, which is at a place of a row.
+// The power sums with one more byte, which is at a place of a row: sum `k` gets the byte times the place's power of
+// alpha, to the power k. All sixteen lanes are computed at once, of which the first ten are compared.
 #[inline(always)]
 fn with_byte(sums: u8x16, place: usize, byte: u8) -> u8x16
     requires { place < 182 }
@@ -114,7 +122,8 @@ fn with_byte(sums: u8x16, place: usize, byte: u8) -> u8x16
 }
 
 // Whether the first sums are these syndromes. No branch hangs on one of them, so that all are compared at once: the
-// first eight, and the last eight.
+// first eight, and the last eight of the ten, six of them twice. The clause goes one way, since believing too little
+// would only cost time.
 #[inline(always)]
 fn begin_with(sums: u8x16, syndromes: &[u8]) -> bool
     requires lanes { length sums ≡ 16 }

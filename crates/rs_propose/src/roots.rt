@@ -3,6 +3,11 @@
 //! polynomial is a quadratic form of eight bits. Where one bit changes, its value changes by a sum: of what belongs to
 //! that bit alone, and of what belongs to that bit and each other bit that is set. In Gray's order each point has one
 //! bit changed, and no product is left.
+//! The upper four bits change in Gray's order, and for each of their sixteen values the lower four do. A single is what
+//! a bit adds by itself, a pair what two bits add together, and a change what a bit would add at the point at hand.
+//! Nothing is proved of the zeros, so no function has a clause on them: what is proposed by them is tested row by row.
+//! A remainder or a clause keeps an index inside its list. The steps are inlined, so that what changes with each point
+//! stays in registers.
 ghost use Rattle.std.specs.Prelude.{◌<◌};
 
 use rs_lanes::scaled;
@@ -11,7 +16,7 @@ use std::simd::prelude::*;
 // The elements that have one bit.
 static UNITS: [u8; 8] = [0x01, 0x02, 0x04, 0x08, 0x10, 0x20, 0x40, 0x80];
 
-// Their second to fifth powers.
+// Their second to fifth powers, of which those of all points are made by sums.
 static SQUARES: [u8; 8] = [0x01, 0x04, 0x10, 0x40, 0x1D, 0x74, 0xCD, 0x13];
 
 static CUBES: [u8; 8] = [0x01, 0x08, 0x40, 0x3A, 0xCD, 0x26, 0x2D, 0x75];
@@ -45,7 +50,8 @@ static FIFTH_PAIRS: [[u8; 8]; 8] = [
 ];
 
 /// The zeros of each polynomial that aren't 0, in no order: the last five found. Where fewer are found, the others are
-/// 0. There are no more than five.
+/// 0. There are no more than five. `taps` are the coefficients of x^4 to x^0, as bytes. The point 0 is tried like all
+/// others: noted as a zero, it reads as none.
 pub fn roots(taps: &[u8x32; 5]) -> [u8x32; 5] {
     let mut lower = [u8x16::splat(0); 5];
     let mut upper = [u8x16::splat(0); 5];
@@ -62,7 +68,8 @@ pub fn roots(taps: &[u8x32; 5]) -> [u8x32; 5] {
     found
 }
 
-// Likewise for sixteen polynomials. What changes with each point then fits into sixteen registers of sixteen lanes.
+// Likewise for sixteen polynomials. What changes with each point then fits into sixteen registers of sixteen lanes, as
+// processors without vectors of 32 bytes have them. `value` and `point` stay at lower bits 0, where each walk begins.
 fn roots_of_half(taps: &[u8x16; 5]) -> [u8x16; 5] {
     let mut found = [u8x16::splat(0); 5];
     let pairs = pairs_of(taps[1]);
@@ -97,8 +104,8 @@ fn joined(lower: u8x16, upper: u8x16) -> u8x32 {
     )
 }
 
-// The bit that changes with a step in Gray's order. A step is below sixteen, so that the remainder changes nothing: it
-// shows that the bit is below four.
+// The bit that changes with a step in Gray's order: the lowest one that the step's number has. A step is from 1 to 15,
+// so that the remainder changes nothing: it shows that the bit is below four.
 #[inline(always)]
 fn flipped(step: u32) -> usize
     ensures { result < 4 }
@@ -106,7 +113,7 @@ fn flipped(step: u32) -> usize
     step.trailing_zeros() as usize % 4
 }
 
-// What each bit that is set adds to the values by itself.
+// What each bit that is set adds to the values by itself: x^5 and the terms of x^4 to x^1 at this bit alone.
 #[inline(always)]
 fn singles_of(taps: &[u8x16; 5]) -> [u8x16; 8] {
     let mut singles = [u8x16::splat(0); 8];
@@ -120,7 +127,8 @@ fn singles_of(taps: &[u8x16; 5]) -> [u8x16; 8] {
     singles
 }
 
-// What each two bits add together where both are set, by the coefficients of x^3.
+// What each two bits add together where both are set, by the coefficients of x^3: only third and fifth powers aren't
+// linear. It is the same either way round, and 0 for a bit with itself, so half is computed.
 #[inline(always)]
 fn pairs_of(cubic: u8x16) -> [[u8x16; 8]; 8] {
     let mut pairs = [[u8x16::splat(0); 8]; 8];
@@ -148,7 +156,8 @@ fn inner_changes(singles: &[u8x16; 8], pairs: &[[u8x16; 8]; 8]) -> [u8x16; 16] {
     inner
 }
 
-// Adds to the changes what they share with a bit that changes.
+// Adds to the changes what they share with a bit that changes. It adds nothing to the change of this bit itself. Added
+// once more, it takes that away, so that it serves a bit that is set and one that is cleared.
 #[inline(always)]
 fn turn(changes: &mut [u8x16; 8], pairs: &[u8x16; 8]) {
     for bit in 0..8 {
@@ -156,7 +165,9 @@ fn turn(changes: &mut [u8x16; 8], pairs: &[u8x16; 8]) {
     }
 }
 
-// Walks the sixteen points with the same upper bits: four times four, each of which changes bit 0, bit 1 and bit 0.
+// Walks the sixteen points with the same upper bits: four times four, each of which changes bit 0, bit 1 and bit 0. The
+// value and the point are copies: the caller's stay where the lower bits are 0. A step adds its change without upper
+// bits, from `inner`, and what its bit shares with the upper bits that are set, from `changes`. Zeros go to `found`.
 #[inline(always)]
 fn walk(
     found: &mut [u8x16; 5],
@@ -176,7 +187,8 @@ fn walk(
     }
 }
 
-// Walks four points with the same upper six bits.
+// Walks four points with the same upper six bits, and leaves `value` and `point` at the last. All four values are at
+// hand before any is tested, so that one test serves them.
 #[inline(always)]
 fn walk_four(
     found: &mut [u8x16; 5],
@@ -221,7 +233,7 @@ fn note_four(found: &mut [u8x16; 5], values: &[u8x16; 4], points: &[u8x16; 4]) {
     }
 }
 
-// Likewise one by one.
+// Likewise one by one: each is put in the lanes where it is a zero.
 #[inline(always)]
 fn note_each(found: &mut [u8x16; 5], values: &[u8x16; 4], points: &[u8x16; 4]) {
     for k in 0..4 {
@@ -230,7 +242,7 @@ fn note_each(found: &mut [u8x16; 5], values: &[u8x16; 4], points: &[u8x16; 4]) {
 }
 
 // Puts a point before those found, in each lane that is chosen. All five move up in each lane alike, without a branch
-// or a place that is counted.
+// or a place that is counted. From the last on, so that each is read before it is overwritten; the fifth is lost.
 #[inline(always)]
 fn put(found: &mut [u8x16; 5], chosen: mask8x16, point: u8x16) {
     for k in 0..4 {

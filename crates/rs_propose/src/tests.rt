@@ -8,6 +8,7 @@ use rs_decode::decode;
 use rs_lanes::row_values;
 
 /// Drawn numbers: each is a state of 64 bits, to which three shifts of itself were added.
+/// With shifts by 13, 7 and 17 all states but 0 come before one comes again; the first is any of them.
 #[derive(Drop)]
 struct Drawn {
     state: u64,

@@ -2,6 +2,10 @@
 //! are the field of sixteen elements by z^4 + z + 1, and y^2 = y + z^14. Vectors have no product of bytes. In this form
 //! a product is three products of nibbles. These are sums of logarithms to the base z, which tables of sixteen give in
 //! all lanes at once.
+//! (a y + b) (c y + d) is a c z^14 + b d (1 + y) + (a + b) (c + d) y: so each of the three products has one table.
+//! No function has a clause: all of it makes proposals, which are tested, so a wrong entry could cost time alone.
+//! Tables of fifteen powers have a sixteenth entry, 0, that no sum of logarithms reaches.
+//! All is inlined, so that vectors needn't pass through memory.
 use crate::nibbles::{at_high_nibbles, at_low_nibbles, look_up, mapped};
 use std::simd::prelude::*;
 
@@ -10,8 +14,8 @@ use std::simd::prelude::*;
 /// looked up once.
 pub type Logs = [u8x32; 3];
 
-/// The number that is used as the logarithm of 0.
-pub const LOG_OF_ZERO: u8 = 0xF0;
+/// The number that is used as the logarithm of 0: the sum of two is 224 by eight bits, and still 128 or more.
+const LOG_OF_ZERO: u8 = 0xF0;
 
 // The logarithms of the nibbles.
 static LOGARITHMS: [u8; 16] = [
@@ -53,7 +57,7 @@ static OF_SUMS: [u8; 16] = [
     0x10, 0x20, 0x40, 0x80, 0x30, 0x60, 0xC0, 0xB0, 0x50, 0xA0, 0x70, 0xE0, 0xF0, 0xD0, 0x90, 0,
 ];
 
-// The squares of the powers of z, times z^14.
+// The squares of the powers of z, times z^14: what a high nibble adds to a norm.
 static SQUARES_IN_NORM: [u8; 16] = [
     0x09, 0x02, 0x08, 0x06, 0x0B, 0x0A, 0x0E, 0x0D, 0x01, 0x04, 0x03, 0x0C, 0x05, 0x07, 0x0F, 0,
 ];
@@ -78,7 +82,9 @@ static INVERSE_LOGARITHMS: [u8; 16] = [
     0x03,
 ];
 
-// From bytes to pairs of nibbles, where z is 98 and y is 12 (in base 16).
+// From bytes to pairs of nibbles, where z is 98 and y is 12 (in base 16): any of the four elements and the two that
+// meet the equations above would do. For z^14 any of eight nibbles would: those with which no nibble meets the second
+// equation, since y has to be none.
 static PAIRS: [[u8; 16]; 2] = [
     [
         0x00, 0x01, 0x48, 0x49, 0x34, 0x35, 0x7C, 0x7D, 0x40, 0x41, 0x08, 0x09, 0x74, 0x75, 0x3C,
@@ -126,13 +132,13 @@ pub fn bytes(pairs: u8x32) -> u8x32 {
     mapped(&BYTES, pairs)
 }
 
-/// The squares of pairs of nibbles.
+/// The squares of pairs of nibbles. A square is linear in this field, so it needs no logarithms.
 #[inline(always)]
 pub fn squares(pairs: u8x32) -> u8x32 {
     mapped(&SQUARES, pairs)
 }
 
-/// The logarithms of pairs of nibbles.
+/// The logarithms of pairs of nibbles. Of `sums` only the low nibble is read, which is the sum of both.
 #[inline(always)]
 pub fn logs(pairs: u8x32) -> Logs {
     let sums = pairs ^ (pairs >> u8x32::splat(4));
@@ -163,8 +169,10 @@ pub fn product(a: &Logs, b: &Logs) -> u8x32 {
         ^ look_up(&OF_SUMS, joined(a[2], b[2]))
 }
 
-/// The logarithms of the inverses. Those of 0 have no meaning.
-/// The product of a y + b and its conjugate a y + (a + b) is its norm, a nibble.
+/// The logarithms of the inverses. Those of 0 have no meaning. For a nibble 0 they have 209 or more, which a sum with
+/// another keeps from 128 on.
+/// The product of a y + b and its conjugate a y + (a + b) is its norm, a nibble: b (a + b) + a^2 z^14. So the inverse
+/// is the conjugate divided by the norm. In a conjugate the low nibble and the sum of both have changed places.
 #[inline(always)]
 pub fn inverse(a: &Logs) -> Logs {
     let norms = look_up(&POWERS, joined(a[1], a[2])) ^ look_up(&SQUARES_IN_NORM, a[0]);

@@ -1,4 +1,5 @@
-//! The lines of the report of `draw`. Each run has one, which closes it, and scripts may look for its text.
+//! The lines of the report of `draw`. Each run has one, which closes it, and scripts may look for its text. A `Line`
+//! has room for 256 bytes; `short` and the bounds of `fixed_line` and `rule_line` keep within it.
 ghost use Rattle.std.specs.Prelude.{◌≡◌, ◌≤◌, length};
 ghost use Rattle.cap_draw.specs.declared.drawing.DrawEnd.TheVariants.{Short};
 ghost use Rattle.cap_top.specs.Draw.{draw_line, rule_text};
@@ -21,6 +22,7 @@ pub fn draw_line(end: DrawEnd) -> Line
     }
 }
 
+// The line of a survey that is cut: in which line, and how many bytes of that came.
 fn short_line(number: u64, bytes: u64) -> Line
     ensures { result ≡ draw_line (Short number bytes) }
 {
@@ -31,6 +33,7 @@ fn short_line(number: u64, bytes: u64) -> Line
     line
 }
 
+// The word of a rule. These are texts of this report; the names of `SurveyCause` may be longer.
 fn rule_text(cause: SurveyCause) -> &'static [u8]
     ensures text { result.now ≡ rule_text cause }
     ensures short { length result.now ≤ 8 }

@@ -5,7 +5,8 @@ ghost use Rattle.cap_top.specs.Interleave.{closing_line};
 use cap_interleave::InterleaveEnd;
 use dvd_report::Line;
 
-/// The closing line. The files are counted from 1 there, as they are in the arguments.
+/// The closing line. The files are counted from 1 there, as they are in the arguments; blocks are counted from 0. The
+/// sum has 64 bits, so that it can't overflow.
 pub fn closing_line(end: InterleaveEnd) -> Line
     ensures { result ≡ closing_line end }
 {

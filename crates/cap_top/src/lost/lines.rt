@@ -1,4 +1,5 @@
-//! The lines of the report of `lost`, one of which closes each run.
+//! The lines of the report of `lost`, one of which closes each run. Those that say that a map was written are in
+//! `lost`.
 ghost use Rattle.std.specs.Prelude.{◌≡◌, ◌≤◌, length};
 ghost use Rattle.cap_top.specs.Lost.Lines.{cause_text, refusal_line};
 
@@ -17,6 +18,8 @@ pub fn refusal_line(fault: ReportFault) -> Line
     }
 }
 
+// The words of a rule. `short` is what `rule_line` asks for: a `Line` has room for a bounded text. They are those that
+// `ReportCause` displays, here as bytes.
 fn text_of(cause: ReportCause) -> &'static [u8]
     ensures text { result.now ≡ cause_text cause }
     ensures short { length result.now ≤ 20 }

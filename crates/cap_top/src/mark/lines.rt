@@ -42,6 +42,8 @@ pub fn refusal_line(refusal: MapRefusal) -> Line
     }
 }
 
+// The words of a rule. `short` is what `rule_line` asks for: a `Line` has room for a bounded text. They are those that
+// `MapCause` displays, here as bytes.
 fn text_of(cause: MapCause) -> &'static [u8]
     ensures text { result.now ≡ cause_text cause }
     ensures short { length result.now ≤ 8 }

@@ -31,7 +31,8 @@ pub fn open_map<M: Source>(alloc: Global, good: &[u8], map: &mut M) -> Result<Ve
     }
 }
 
-// Reads the text of a map by pieces. Its length isn't known before, so the text grows.
+// Reads the text of a map by pieces. Its length isn't known before, so the text grows. A map without end comes to
+// `NoMemory`. The length of a piece has no part in the result.
 fn read_text<M: Source>(alloc: Global, map: &mut M) -> Result<Vec<u8>, MapRefusal>
     ensures read { IfOk result (λ text. TextIs (M.seen map.old) (M.seen map.new) text.items) }
     ensures refused { IfErr result (IsTextFault (M.seen map.old) (M.seen map.new)) }

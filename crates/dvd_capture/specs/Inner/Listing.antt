@@ -11,8 +11,8 @@ use Rattle.dvd_capture.specs.declared.capture.FetchAnswer.{FetchAnswer}
 use Rattle.dvd_capture.specs.declared.runs.Taken.{Taken}
 use Rattle.dvd_capture.specs.declared.capture.FetchAnswer.TheVariants.{Full, End, Short, ReadFault, BadMarks}
 
--- These bytes are those of a unit up to its first n runs, and break no rule. The last of these runs ends there, and these marks
--- are theirs.
+-- These bytes are those of a unit up to its first n runs, and break no rule. The last of these runs ends there, and
+-- these marks are theirs.
 pub record HasRuns (bytes : List ℕ) (count n end : ℕ) (mark : ℕ → Bool) : Type 0 where
   pub size : length bytes ≡ 37_858 + 4 * n
   pub number : run_count bytes ≡ count
@@ -21,7 +21,8 @@ pub record HasRuns (bytes : List ℕ) (count n end : ℕ) (mark : ℕ → Bool) 
   pub last : 0 < n → end ≡ end_of bytes (n - 1)
   pub marks : (place : ℕ) → place < 37_856 → mark place ≡ marked_by bytes n place
 
--- These bytes and fields are those of a unit up to its first runs, and break no rule; these marks are those of its whole runs.
+-- These bytes and fields are those of a unit up to its first runs, and break no rule; these marks are those of its
+-- whole runs.
 pub record HasFields (head : List ℕ) (count : ℕ) (fields : List ℕ) (mark : ℕ → Bool) (taken : Taken) : Type 0 where
   pub runs : HasRuns (head ++ take (4 * taken.runs) fields) count taken.runs taken.end mark
   pub whole : 4 * taken.runs ≤ length fields

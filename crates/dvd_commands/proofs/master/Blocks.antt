@@ -22,7 +22,8 @@ module _ (layout : Layout) (zones : Zones) (k : ℕ) (entry : BlockPlan) (stands
   pub size_is : bytes_of_block layout zones k ≡ image_bytes layout entry
   size_is = ap (bytes_of_entry layout) stands
 
-  -- as many bytes of a piece that is filled with zeros as block k takes: their frames' block is what mastering may write for them
+  -- as many bytes of a piece that is filled with zeros as block k takes: their frames' block is what mastering may
+  -- write for them
   pub mastered : (cpr piece sectors : List ℕ) (size : ℕ) → size ≡ image_bytes layout entry → length piece ≡ 32768 → size ≤ 32768 → drop size piece ≡ replicate (32768 - size) 0
       → sectors ≡ piece → (block : List (List ℕ)) → IsBlockOf (frames_of layout entry cpr sectors) block
       → (length (take size piece) ≡ bytes_of_block layout zones k) × IsMastered layout zones cpr k (take size piece) (Write (recording block) ∷ []) Good

@@ -41,8 +41,8 @@ bytes-number number below =
     bytes-append 2 2 4 (0 ∷ number / 65536 ∷ []) (number / 256 % 256 ∷ number % 256 ∷ []) (omega arith)
     (two_bytes 0 (number / 65536) (omega arith) (omega arith)) (two_bytes (number / 256 % 256) (number % 256) (omega arith) (omega arith))
 
--- the head of a physical format is 17 bytes: version and rate, layers and density, three sector numbers, and the burst cutting
--- area, of which there is none
+-- the head of a physical format is 17 bytes: version and rate, layers and density, three sector numbers, and the burst
+-- cutting area, of which there is none
 bytes-head : (layout : Layout) (layer : ℕ) → HasBytes 17 (head_bytes (fields_for layout layer))
 unfolding fields_for
 bytes-head layout layer =

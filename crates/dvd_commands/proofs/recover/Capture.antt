@@ -70,7 +70,8 @@ block_sectors-are : (rows : List (List ℕ)) (marks : List (List Bool)) (entry :
 unfolding block_sectors
 block_sectors-are rows marks entry is = ap (λ cause. cond (is_none cause) (main_data (block_in rows marks) entry) (replicate 16 (replicate 2048 0))) is
 
--- What is written for a block of image sectors is what is salvaged of it: of a block that is given back that is all of them.
+-- What is written for a block of image sectors is what is salvaged of it: of a block that is given back that is
+-- all of them.
 written_is : (layout : Layout) (form : Form) (k : ℕ) (entry : BlockPlan) (own : List ℕ) (steps : List Step) (kind : UnitKind) → captured_part form own ≡ Whole (length own)
     → IsImageDone layout k entry (captured_rows form own) (captured_marks form own) steps kind
     → written steps ≡ sectors_out (image_sectors layout entry.content) (block_out (captured_rows form own) (captured_marks form own) entry)

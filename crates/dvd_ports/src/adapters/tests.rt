@@ -1,4 +1,5 @@
-//! Readers and writers that move a part of a piece, move nothing, or fail.
+//! Readers and writers that move a part of a piece, move nothing, or fail. Each case is tried with two kinds of errors:
+//! std's own loops try again after one of them, and no object here may.
 use super::{StdSink, StdSource};
 use crate::{Failed, Sink, Source, read_whole, write_whole};
 use std::alloc::{AllocError, Global};
@@ -118,7 +119,8 @@ fn stream(alloc: Global, count: usize) -> Result<Vec<u8>, AllocError> {
     Ok(bytes)
 }
 
-// Bytes of the input, length of the buffer, bytes a call of the reader, and the call that fails.
+// Bytes of the input, length of the buffer, bytes a call of the reader, and the call that fails. 2,366 bytes are a
+// recording frame, and 32,768 the sectors of a block.
 type Reads = (usize, usize, usize, usize);
 
 static READS: [Reads; 9] = [
@@ -162,7 +164,7 @@ fn reads(
     Ok(())
 }
 
-// All bytes come, by fourteen calls.
+// All bytes come, by fourteen calls: more than the longest case needs, so that calls at the end are tried too.
 fn gives(
     source: &mut StdSource<Reader>,
     buf: &mut [u8],

@@ -22,8 +22,8 @@ abbrev pub IsFirstWrongRow : List ColumnAnswer → ℕ → ℕ → Type 0
 IsFirstWrongRow columns top i =
     (top ≤ i) × (i < top + 32) × AreRightFrom columns top (i - top) × (vanishes_at_all 10 (line (from_columns (words_of_columns columns)) i) ≡ false)
 
--- These are the columns and the rows' answers of a block, and the flag says whether two passes fixed it: then the columns hold
--- the block that was found.
+-- These are the columns and the rows' answers of a block, and the flag says whether two passes fixed it: then the
+-- columns hold the block that was found.
 pub record HoldAnswers (flag : Bool) (all : List ColumnAnswer) (answers : List AnswerRow) : Type 0 where
   pub columns : length all ≡ 182
   pub rows : length answers ≡ 208

@@ -3,14 +3,14 @@
 use dvd_trial::{Held, hold};
 
 const DISKS: &str = "
-# A disk of one layer with all of its zones. Each of its 192 control blocks tells the format where those before it are
+# A disk of one layer with all of its zones. Each of its 192 control blocks gives the format where those before it are
 # destroyed.
 given: image of 16 sectors | master --sectors 16 --zones all makes 273 blocks
 run: info
 output: lines version 1/rate 2/layers 1/path parallel/kind 1/density 0/pitch 0/first 030000/last 03000F/\
 layer0 000000/bca 0
 => Done, 110 bytes: done
-# The first control block stands behind 32 others, and nothing behind it is read: 33 blocks of eight calls.
+# The first control block comes after 32 others, and nothing after it is read: 33 blocks of eight calls.
 read: 33 blocks
 all fail in turn: 264 reads of 5000 bytes, 3 writes of 50 bytes, 3 reports of 2 bytes
 also: zero: block {32 to 222}     -> Done, 110 bytes: done

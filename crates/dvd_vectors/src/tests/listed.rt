@@ -64,7 +64,7 @@ output: given | listed shape 0 zones 0 sectors 16 and 0 initial 0 tail 16 runs 0
 case: marked | doubtful by 00: block 0 -> Done, 37894 bytes: done
 at 37888 bytes: 0001000093E0
 
-# Streams that aren't whole. The header stands before anything is read.
+# Streams that aren't whole. The header is written before anything is read.
 given: image of 17 sectors | master --sectors 17 makes 2 blocks
 run: convert --sectors 17
 output: given | listed shape 0 zones 0 sectors 17 and 0 initial 0 tail 16
@@ -111,7 +111,7 @@ given: image of 16 sectors | master --sectors 16 makes 1 block
 case: listed shape 0 zones 0 sectors 16 and 0 initial 0 tail 16 runs \
 {0:5 5:1, 0:5 6:1 7:1, 37856:1, 65535:65535, 0:0, 37855:2, 1:37856, 9:1 3:1} \
 -> BadMarks, 0 bytes: bad marks: block 0, byte {37862, 37866, 37858, 37858, 37860, 37860, 37860, 37862}
-# The number of runs, behind which the input ends: one too many, and the most.
+# The number of runs, after which the input ends: one too many, and the most.
 also: listed shape 0 zones 0 sectors 16 and 0 initial 0 tail 16 | cut off 2 bytes
 case: hex 49F1  -> BadMarks, 0 bytes: bad marks: block 0, byte 37856
 case: hex 49F0  -> Short, 0 bytes: short: block 0, 37858 bytes

@@ -11,7 +11,7 @@ use dvd_top::{Command, LoopEnd, Settings, Status, master_loop, recover_loop, run
 use dvd_trial::{Held, bytes_of, words_of};
 use std::thread::Threads;
 
-// Settings of a disk of 17 sectors.
+// Settings of a disk of 17 sectors. The clause is what the loops require of the number of workers.
 fn settings(command: Command) -> Settings
     ensures { (1 ≤ result.workers) × (result.workers ≤ 16) }
 {

@@ -32,7 +32,7 @@ run: merge --sectors 17 --captures 16 --form marked
 run: merge --sectors 16 --captures 16 --form marked
 case: cut off 1 byte  -> Short, 0 bytes: short: block 0, 682239 bytes
 
-# Two captures of a recording of sixteen blocks, one behind the other. Each of them is refused; the lines were
+# Two captures of a recording of sixteen blocks, one after the other. Each of them is refused; the lines were
 # computed by another program, which draws the same.
 given: image of 256 sectors | master --sectors 256 makes 16 blocks | repeat the last 16 blocks | marked | drawn from 2
 run: recover --sectors 256 --form marked

@@ -3,7 +3,7 @@
 use dvd_trial::{Held, hold};
 
 const ENDS: &str = "
-# The first sector behind the pause of two seconds, of zeros and of counted bytes. It is what the sector library of
+# The first sector after the pause of two seconds, of zeros and of counted bytes. It is what the sector library of
 # the program wodim makes (libedc of cdrkit 1.1.11), and a program that was made from the standard alone.
 given: 1 sector of 00
 run: cdmake --address 150 --sectors 1 -> Done, 2352 bytes: done
@@ -62,7 +62,7 @@ case: {1 sector of 00, counted sector} | cdmake --address 150 --sectors 1 makes 
 -> Damaged, 2048 bytes: sector 0: address found 000200/damaged: 1 sectors
 
 # Of the first sector all bytes of one P word in each half are wrong, of the second one a thousand bytes, of the third
-# one the sync and a byte of each half behind it. The second one is damaged among good ones.
+# one the sync and a byte of each half after it. The second one is damaged among good ones.
 given: image of 4 sectors | cdmake --address 4498 --sectors 4 makes 9408 bytes | \
 wrong by FF: cdsector 0, bytes 22 to 2172 step 86 | wrong by 5A: cdsector 0, bytes 97 to 2247 step 86 | \
 wrong by 55: cdsector 1, bytes 1000 to 1999 | wrong by 33: cdsector 2, bytes 0 to 13
@@ -101,7 +101,7 @@ or: convert --sectors 16 --form listed or merge --sectors 16 --captures 2 --form
                                              -> Usage, 0 bytes: usage
 reads: {1 byte, 7 bytes} a call              -> Usage, 0 bytes: usage
 reports: 1 byte a call, call {6, 7} fails    -> Usage, 0 bytes: usage
-# Where the report doesn't take the whole line, the status tells it.
+# Where the report doesn't take the whole line, the status says it.
 reports: 1 byte a call, call {0 to 5} fails  -> ReportFault, 0 bytes: {, u, us, usa, usag, usage}..
 ";
 

@@ -15,8 +15,8 @@ pub record IsInverse (points : List ℕ) (columns : List (List ℕ)) : Type 0 wh
   pub identity : (i j : ℕ) → i < length points → j < length points
       → row_sum (length points) columns i (slice_index points j) ≡ (if i == j then 1 else 0)
 
--- The other way round it is the identity too: the power sums of column l are 0, but for the one with the number l, which is 1.
--- So it takes any sums to bytes at the points that have them.
+-- The other way round it is the identity too: the power sums of column l are 0, but for the one with the number l,
+-- which is 1. So it takes any sums to bytes at the points that have them.
 pub record HasSums (points : List ℕ) (columns : List (List ℕ)) : Type 0 where
   pub sums : (k l : ℕ) → k < length points → l < length points
       → total (length points) (λ i. product (place columns l i) (power (slice_index points i) k)) ≡ (if k == l then 1 else 0)

@@ -1,5 +1,5 @@
--- The locator: a polynomial that vanishes at the points of the errors, the highest power first. Its coefficients are the taps
--- of a register that generates the power sums.
+-- The locator: a polynomial that vanishes at the points of the errors, the highest power first. Its coefficients are
+-- the taps of a register that generates the power sums.
 use Rattle.std.specs.Prelude.{ℕ, Bool, ◌||◌, ◌==◌, List, [], ◌∷◌}
 use Rattle.coding.specs.Field.{plus, product}
 use Rattle.coding.specs.Words.{value}
@@ -15,8 +15,8 @@ unfoldable pub distances : List ℕ → ℕ → ℕ
 distances [] x = 1
 distances (a ∷ others) x = product (plus x a) (distances others x)
 
--- The slope of the locator of the others between x and y: what its values there differ by is this times the distance of x and
--- y. Where both are one point, it is the derivative.
+-- The slope of the locator of the others between x and y: what its values there differ by is this times the distance of
+-- x and y. Where both are one point, it is the derivative.
 unfoldable pub slope : List ℕ → ℕ → ℕ → ℕ
 slope [] x y = 0
 slope (a ∷ others) x y = plus (product (plus x a) (slope others x y)) (distances others y)

@@ -1,5 +1,5 @@
--- The proof of `fill_from` in src/erasures.rt. The corrections are the only ones with which the word may be a codeword. So one
--- that agrees at the unmarked places is the filled word.
+-- The proof of `fill_from` in src/erasures.rt. The corrections are the only ones with which the word may be a codeword.
+-- So one that agrees at the unmarked places is the filled word.
 use Rattle.std.proofs.Common.{◌≡◌, ◌≢◌, ◌≤◌, length, All, rules, arith, ap, sym, subst, ◌∙◌}
 use Rattle.std.proofs.lemmas.List.Elements.{All-from_get_or}
 use Rattle.coding.specs.Words.{IsByte, IsCodeword}
