@@ -19,14 +19,7 @@ use Rattle.dvd_frame.specs.Inner.Registers.{byte_remainder}
 use Rattle.dvd_frame.proofs.BitLists.{length-bits, plus_front-bits, bits-mod, number_of-bits}
 use Rattle.dvd_frame.proofs.Multiples.{IsBit, bits-bits, length-remainder, bits-remainder, bits-number_of, plus_front_self}
 use Rattle.dvd_frame.proofs.Division.{plus_front-append, padded, length-padded, bits-padded, bits-byte_remainder}
-use Rattle.dvd_frame.proofs.WordDivision.{divided_sum}
-
--- what is added within the first of two joined lists leaves the second
-pub plus_front_within : (xs ys added : List ℕ) → length added ≤ length xs → plus_front (xs ++ ys) added ≡ plus_front xs added ++ ys
-unfolding plus_front
-plus_front_within xs ys [] within = refl
-plus_front_within [] ys (z ∷ added) within = absurd (omega arith)
-plus_front_within (x ∷ xs) ys (z ∷ added) within = ap (λ (l : List ℕ). bit_xor x z ∷ l) (plus_front_within xs ys added (omega arith))
+use Rattle.dvd_frame.proofs.WordDivision.{divided_sum, plus_front_within}
 
 -- division leaves what comes after the bits that its steps reach
 remainder_front : (n : ℕ) (xs ys : List ℕ) → n + 32 ≤ length xs → remainder n (xs ++ ys) ≡ remainder n xs ++ ys

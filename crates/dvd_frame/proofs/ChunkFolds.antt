@@ -14,8 +14,8 @@ use Rattle.gf_field.proofs.BitDivision.{length-plus_front}
 use Rattle.coding.specs.Bits.{bits}
 use Rattle.dvd_frame.specs.Inner.Registers.{divided_from, byte_remainder}
 use Rattle.dvd_frame.proofs.Division.{divided_from_zero}
-use Rattle.dvd_frame.proofs.WordDivision.{remainders_sum, bits-remainders_sum}
-use Rattle.dvd_frame.proofs.ByteFolds.{plus_front_within, byte_remainder-sum, powers_fold}
+use Rattle.dvd_frame.proofs.WordDivision.{remainders_sum, bits-remainders_sum, plus_front_within}
+use Rattle.dvd_frame.proofs.ByteFolds.{byte_remainder-sum, powers_fold}
 
 -- what division leaves of bytes with m bytes of zeros after them
 pub left_of : ℕ → List ℕ → ℕ

@@ -1,8 +1,10 @@
--- Division of four bytes at once: what it leaves of each, with zeros in place of the others, is added up.
-use Rattle.std.proofs.Common.{◌≡◌, ℕ, zero, suc, ◌+◌, ◌*◌, ◌<◌, ◌≤◌, List, [], ◌∷◌, ◌++◌, length, get_or, All, cond, eqb, refl, sym, ◌∙◌, ap, arith}
+-- Division of eight bytes at once: what it leaves of each, with zeros in place of the others, is added up.
+use Rattle.std.proofs.Common.{◌≡◌, ℕ, zero, suc, ◌+◌, ◌*◌, ◌<◌, ◌≤◌, List, [], ◌∷◌, ◌++◌, length, get_or, take, drop, All, cond, eqb, refl, sym, ◌∙◌, ap, arith}
 use Rattle.std.specs.Prelude.{bit_xor, replicate}
 use Rattle.std.specs.Int.Bits.{xor_zero_r, xor_assoc}
-use Rattle.std.proofs.lemmas.List.{length-append, length-replicate, append_assoc, append-nil}
+use Rattle.std.specs.List.{concat}
+use Rattle.std.specs.Simd.{first_chunks}
+use Rattle.std.proofs.lemmas.List.{length-append, length-replicate, append_assoc, drop-drop, take-append-drop}
 use Rattle.std.proofs.lemmas.List.Elements.{All-append, All-replicate, All-tail}
 use Rattle.coding.specs.BitDivision.{plus_front, remainder_by}
 use Rattle.gf_field.proofs.BitDivision.{length-plus_front, plus_front_twice, remainder_by_twice}
@@ -126,9 +128,16 @@ bits_of-plus_front (x ∷ xs) (y ∷ ys) =
     ∙ ap (λ (l : List ℕ). l ++ plus_front (bits_of xs) (bits_of ys)) (sym (plus_front-bits 8 x y))
     ∙ sym (plus_front-append (bits 8 x) (bits 8 y) (bits_of xs) (bits_of ys) (length-bits 8 x ∙ sym (length-bits 8 y)))
 
--- Four bytes read into the register: what their sum with the register's leaves is the next register.
-pub word_read : (register next : ℕ) (word bytes : List ℕ) → length word ≡ 4
-    → bits 32 next ≡ remainder 32 (bits_of (plus_front word (word_bytes register)) ++ replicate 32 0)
+-- what is added within the first of two joined lists leaves the second
+pub plus_front_within : (xs ys added : List ℕ) → length added ≤ length xs → plus_front (xs ++ ys) added ≡ plus_front xs added ++ ys
+unfolding plus_front
+plus_front_within xs ys [] within = refl
+plus_front_within [] ys (z ∷ added) within = absurd (omega arith)
+plus_front_within (x ∷ xs) ys (z ∷ added) within = ap (λ (l : List ℕ). bit_xor x z ∷ l) (plus_front_within xs ys added (omega arith))
+
+-- Eight bytes read into the register: what their sum with the register's leaves is the next register.
+pub word_read : (register next : ℕ) (word bytes : List ℕ) → length word ≡ 8
+    → bits 32 next ≡ remainder 64 (bits_of (plus_front word (word_bytes register)) ++ replicate 32 0)
     → divided_from next bytes ≡ divided_from register (word ++ bytes)
 unfolding divided_from plus_front
 word_read register next word bytes size is =
@@ -137,53 +146,76 @@ word_read register next word bytes size is =
     let behind : List ℕ = bits_of bytes ++ zeros in
     let four : List ℕ = word_bytes register in
     let sum : List ℕ = plus_front word four in
-    let sum_size : length (bits_of sum) ≡ 32 = omega (arith, length-plus_front word four, length-bits_of sum) in
-    let count : 32 + n ≡ 8 * length (word ++ bytes) = omega (arith, length-append word bytes) in
+    let sum_size : length (bits_of sum) ≡ 64 = omega (arith, length-plus_front word four, length-bits_of sum) in
+    let count : 64 + n ≡ 8 * length (word ++ bytes) = omega (arith, length-append word bytes) in
     let met : bits_of sum ++ behind ≡ plus_front (bits_of (word ++ bytes) ++ zeros) (bits 32 register) =
     ap (λ (l : List ℕ). l ++ behind) (bits_of-plus_front word four)
-    ∙ sym (plus_front-append (bits_of word) (bits_of four) behind [] (omega (arith, length-bits_of word, length-bits_of four)))
-    ∙ ap (plus_front (bits_of word ++ behind)) (append-nil (bits_of four) ∙ bits_of-word_bytes register)
+    ∙ sym (plus_front_within (bits_of word) behind (bits_of four) (omega (arith, length-bits_of word, length-bits_of four)))
+    ∙ ap (plus_front (bits_of word ++ behind)) (bits_of-word_bytes register)
     ∙ ap (λ (l : List ℕ). plus_front l (bits 32 register)) (sym (ap (λ (l : List ℕ). l ++ zeros) (bits_of-append word bytes) ∙ append_assoc (bits_of word) (bits_of bytes) zeros)) in
     ap (λ (l : List ℕ). remainder n (plus_front behind l)) is
-    ∙ ap (remainder n) (sym (front_divided 32 (bits_of sum) behind sum_size))
-    ∙ sym (remainder_by_twice (bits 32 divisor) 32 n (bits_of sum ++ behind))
+    ∙ ap (remainder n) (sym (front_divided 64 (bits_of sum) behind sum_size))
+    ∙ sym (remainder_by_twice (bits 32 divisor) 64 n (bits_of sum ++ behind))
     ∙ ap (λ (k : ℕ). remainder k (bits_of sum ++ behind)) count
     ∙ ap (remainder (8 * length (word ++ bytes))) met
 
--- four bytes, one by one
-four_bytes : (word : List ℕ) → length word ≡ 4 → get_or word 0 0 ∷ get_or word 1 0 ∷ get_or word 2 0 ∷ get_or word 3 0 ∷ [] ≡ word
-four_bytes [] size = absurd (omega arith)
-four_bytes (a ∷ []) size = absurd (omega arith)
-four_bytes (a ∷ b ∷ []) size = absurd (omega arith)
-four_bytes (a ∷ b ∷ c ∷ []) size = absurd (omega arith)
-four_bytes (a ∷ b ∷ c ∷ d ∷ []) size = refl
-four_bytes (a ∷ b ∷ c ∷ d ∷ e ∷ rest) size = absurd (omega arith)
+-- eight bytes, one by one
+eight_bytes : (word : List ℕ) → length word ≡ 8
+    → get_or word 0 0 ∷ get_or word 1 0 ∷ get_or word 2 0 ∷ get_or word 3 0 ∷ get_or word 4 0 ∷ get_or word 5 0 ∷ get_or word 6 0 ∷ get_or word 7 0 ∷ []
+    ≡ word
+eight_bytes [] size = absurd (omega arith)
+eight_bytes (a ∷ []) size = absurd (omega arith)
+eight_bytes (a ∷ b ∷ []) size = absurd (omega arith)
+eight_bytes (a ∷ b ∷ c ∷ []) size = absurd (omega arith)
+eight_bytes (a ∷ b ∷ c ∷ d ∷ []) size = absurd (omega arith)
+eight_bytes (a ∷ b ∷ c ∷ d ∷ e ∷ []) size = absurd (omega arith)
+eight_bytes (a ∷ b ∷ c ∷ d ∷ e ∷ f ∷ []) size = absurd (omega arith)
+eight_bytes (a ∷ b ∷ c ∷ d ∷ e ∷ f ∷ g ∷ []) size = absurd (omega arith)
+eight_bytes (a ∷ b ∷ c ∷ d ∷ e ∷ f ∷ g ∷ h ∷ []) size = refl
+eight_bytes (a ∷ b ∷ c ∷ d ∷ e ∷ f ∷ g ∷ h ∷ i ∷ rest) size = absurd (omega arith)
 
--- four bytes added to the register's
-pub word_met : (register : ℕ) (word four : List ℕ) → length word ≡ 4 → four ≡ word_bytes register
+-- eight bytes, to the first four of which the register's are added
+pub word_met : (register : ℕ) (word four : List ℕ) → length word ≡ 8 → four ≡ word_bytes register
     → bit_xor (get_or word 0 0) (get_or four 0 0) ∷ bit_xor (get_or word 1 0) (get_or four 1 0) ∷ bit_xor (get_or word 2 0) (get_or four 2 0)
-    ∷ bit_xor (get_or word 3 0) (get_or four 3 0) ∷ []
+    ∷ bit_xor (get_or word 3 0) (get_or four 3 0) ∷ get_or word 4 0 ∷ get_or word 5 0 ∷ get_or word 6 0 ∷ get_or word 7 0 ∷ []
     ≡ plus_front word (word_bytes register)
 unfolding plus_front
 word_met register word four size is =
     ap (λ (f : List ℕ). bit_xor (get_or word 0 0) (get_or f 0 0) ∷ bit_xor (get_or word 1 0) (get_or f 1 0) ∷ bit_xor (get_or word 2 0) (get_or f 2 0)
-    ∷ bit_xor (get_or word 3 0) (get_or f 3 0) ∷ []) is
-    ∙ ap (λ (w : List ℕ). plus_front w (word_bytes register)) (four_bytes word size)
+    ∷ bit_xor (get_or word 3 0) (get_or f 3 0) ∷ get_or word 4 0 ∷ get_or word 5 0 ∷ get_or word 6 0 ∷ get_or word 7 0 ∷ []) is
+    ∙ ap (λ (w : List ℕ). plus_front w (word_bytes register)) (eight_bytes word size)
 
--- what division leaves of four bytes, from what it leaves of each with zeros in place of the others
-pub word_remainder : (word : List ℕ) (first second third fourth : ℕ) → length word ≡ 4
-    → first ≡ byte_remainder 3 (get_or word 0 0) → second ≡ byte_remainder 2 (get_or word 1 0)
-    → third ≡ byte_remainder 1 (get_or word 2 0) → fourth ≡ byte_remainder 0 (get_or word 3 0)
-    → bits 32 (bit_xor (bit_xor first second) (bit_xor third fourth)) ≡ remainder 32 (bits_of word ++ replicate 32 0)
+-- a sum of four and more
+xor_four : (a b c d more : ℕ) → bit_xor (bit_xor (bit_xor (bit_xor a b) c) d) more ≡ bit_xor a (bit_xor b (bit_xor c (bit_xor d more)))
+xor_four a b c d more = xor_assoc (bit_xor (bit_xor a b) c) d more ∙ xor_assoc (bit_xor a b) c (bit_xor d more) ∙ xor_assoc a b (bit_xor c (bit_xor d more))
+
+-- what division leaves of eight bytes, from what it leaves of each with zeros in place of the others
+pub word_remainder : (word : List ℕ) (a b c d e f g h : ℕ) → length word ≡ 8
+    → a ≡ byte_remainder 7 (get_or word 0 0) → b ≡ byte_remainder 6 (get_or word 1 0)
+    → c ≡ byte_remainder 5 (get_or word 2 0) → d ≡ byte_remainder 4 (get_or word 3 0)
+    → e ≡ byte_remainder 3 (get_or word 4 0) → f ≡ byte_remainder 2 (get_or word 5 0)
+    → g ≡ byte_remainder 1 (get_or word 6 0) → h ≡ byte_remainder 0 (get_or word 7 0)
+    → bits 32 (bit_xor (bit_xor (bit_xor (bit_xor a b) c) d) (bit_xor (bit_xor (bit_xor e f) g) h)) ≡ remainder 64 (bits_of word ++ replicate 32 0)
 unfolding remainders_sum
-word_remainder word first second third fourth size first_is second_is third_is fourth_is =
-    let four : List ℕ = get_or word 0 0 ∷ get_or word 1 0 ∷ get_or word 2 0 ∷ get_or word 3 0 ∷ [] in
-    let sum : bit_xor (bit_xor first second) (bit_xor third fourth) ≡ bit_xor first (bit_xor second (bit_xor third (bit_xor fourth 0))) =
-    xor_assoc first second (bit_xor third fourth) ∙ ap (λ (x : ℕ). bit_xor first (bit_xor second (bit_xor third x))) (sym (xor_zero_r fourth)) in
+word_remainder word a b c d e f g h size a_is b_is c_is d_is e_is f_is g_is h_is =
+    let eight : List ℕ = get_or word 0 0 ∷ get_or word 1 0 ∷ get_or word 2 0 ∷ get_or word 3 0 ∷ get_or word 4 0 ∷ get_or word 5 0 ∷ get_or word 6 0
+    ∷ get_or word 7 0 ∷ [] in
+    let lower : ℕ = bit_xor (bit_xor (bit_xor e f) g) h in
+    let sum : bit_xor (bit_xor (bit_xor (bit_xor a b) c) d) lower ≡ remainders_sum eight =
+    xor_four a b c d lower
+    ∙ ap (λ (x : ℕ). bit_xor a (bit_xor b (bit_xor c (bit_xor d x)))) (sym (xor_zero_r lower) ∙ xor_four e f g h 0)
+    ∙ rw (a_is, b_is, c_is, d_is, e_is, f_is, g_is, h_is) refl in
     ap (bits 32) sum
-    ∙ ap (λ (x : ℕ). bits 32 (bit_xor x (bit_xor second (bit_xor third (bit_xor fourth 0))))) first_is
-    ∙ ap (λ (x : ℕ). bits 32 (bit_xor (byte_remainder 3 (get_or word 0 0)) (bit_xor x (bit_xor third (bit_xor fourth 0))))) second_is
-    ∙ ap (λ (x : ℕ). bits 32 (bit_xor (byte_remainder 3 (get_or word 0 0)) (bit_xor (byte_remainder 2 (get_or word 1 0)) (bit_xor x (bit_xor fourth 0))))) third_is
-    ∙ ap (λ (x : ℕ). bits 32 (bit_xor (byte_remainder 3 (get_or word 0 0)) (bit_xor (byte_remainder 2 (get_or word 1 0)) (bit_xor (byte_remainder 1 (get_or word 2 0)) (bit_xor x 0))))) fourth_is
-    ∙ bits-remainders_sum four
-    ∙ ap (λ (w : List ℕ). remainder 32 (bits_of w ++ replicate 32 0)) (four_bytes word size)
+    ∙ bits-remainders_sum eight
+    ∙ ap (λ (w : List ℕ). remainder 64 (bits_of w ++ replicate 32 0)) (eight_bytes word size)
+
+-- the whole words and the bytes after them, joined, are all the bytes
+pub words_joined : (count : ℕ) (bytes : List ℕ) → concat (first_chunks 8 count bytes) ++ drop (count * 8) bytes ≡ bytes
+words_joined zero bytes = refl
+words_joined (suc count) bytes =
+    let more : suc count * 8 ≡ 8 + count * 8 = omega arith in
+    ap (λ (n : ℕ). (take 8 bytes ++ concat (first_chunks 8 count (drop 8 bytes))) ++ drop n bytes) more
+    ∙ append_assoc (take 8 bytes) (concat (first_chunks 8 count (drop 8 bytes))) (drop (8 + count * 8) bytes)
+    ∙ ap (λ (l : List ℕ). take 8 bytes ++ (concat (first_chunks 8 count (drop 8 bytes)) ++ l)) (sym (drop-drop (count * 8) 8 bytes))
+    ∙ ap (λ (l : List ℕ). take 8 bytes ++ l) (words_joined count (drop 8 bytes))
+    ∙ take-append-drop 8 bytes

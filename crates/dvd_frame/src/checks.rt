@@ -89,7 +89,7 @@ fn folded(front: &[u8], back: &[u8]) -> u32
 fn with_bytes(register: u32, bytes: &[u8]) -> u32
     ensures { (rest : List ℕ) → divided_from result rest ≡ divided_from register (bytes.now ++ rest) }
 {
-    let (words, others) = bytes.as_chunks::<4>();
+    let (words, others) = bytes.as_chunks::<8>();
     let mut next = with_words(register, words);
     for byte in others {
         next = with_byte(next, *byte);
@@ -97,8 +97,8 @@ fn with_bytes(register: u32, bytes: &[u8]) -> u32
     next
 }
 
-// The remainder of what was read so far, with these words of four bytes more.
-fn with_words(register: u32, words: &[[u8; 4]]) -> u32
+// The remainder of what was read so far, with these words of eight bytes more.
+fn with_words(register: u32, words: &[[u8; 8]]) -> u32
     ensures { (rest : List ℕ) → divided_from result rest ≡ divided_from register (concat words.now ++ rest) }
 {
     let mut next = register;
@@ -108,9 +108,9 @@ fn with_words(register: u32, words: &[[u8; 4]]) -> u32
     next
 }
 
-// Four bytes more at once: the whole register leaves, and what dividing its sum with them leaves is the next. So no
-// part of the register is shifted.
-fn with_word(register: u32, word: [u8; 4]) -> u32
+// Eight bytes more at once: the whole register leaves, added to the first four, and what dividing all eight leaves is the
+// next. So no part of the register is shifted, and the eight look-ups needn't wait for each other.
+fn with_word(register: u32, word: [u8; 8]) -> u32
     ensures { (rest : List ℕ) → divided_from result rest ≡ divided_from register (word ++ rest) }
 {
     let [first, second, third, fourth] = register.to_be_bytes();
@@ -119,6 +119,10 @@ fn with_word(register: u32, word: [u8; 4]) -> u32
         word[1] ^ second,
         word[2] ^ third,
         word[3] ^ fourth,
+        word[4],
+        word[5],
+        word[6],
+        word[7],
     ])
 }
 

@@ -10,5 +10,5 @@ pub returns : goal.returns
 returns c = λ rest.
     word_read c.args.register c.remainder_of_word.result c.args.word rest (omega arith)
     (c.remainder_of_word.ensures
-    ∙ ap (λ (l : List ℕ). remainder 32 (bits_of l ++ replicate 32 0))
+    ∙ ap (λ (l : List ℕ). remainder 64 (bits_of l ++ replicate 32 0))
     (word_met c.args.register c.args.word c.to_be_bytes.result (omega arith) c.to_be_bytes.ensures))
