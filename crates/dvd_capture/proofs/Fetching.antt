@@ -106,23 +106,30 @@ sized-marks Plain sized bytes m = refl
 sized-marks Marked sized bytes m = refl
 sized-marks Listed sized bytes m = absurd (sized refl)
 
--- all bytes of a block came, and its 208 recorded rows are put
+-- all bytes of a block came
 pub all_fetched : (form : Form) → HasSize form → (old now : Option (List ℕ)) (rows : List (List ℕ)) (marks : List (List Bool)) (count : ℕ) (bytes : List ℕ)
-    → length rows ≡ 208 → length marks ≡ 208 → length bytes ≡ block_size form → block_size form ≤ count → Consumes old now (take count bytes)
-    → ArePut form bytes rows marks 208 → Captures form old now rows marks
-unfolding captured_rows captured_marks
-all_fetched form sized old now rows marks count bytes height marks_height size all consumed put = record {
+    → length bytes ≡ block_size form → block_size form ≤ count → Consumes old now (take count bytes)
+    → (rows ≡ captured_rows form bytes) × (marks ≡ captured_marks form bytes) → Captures form old now rows marks
+all_fetched form sized old now rows marks count bytes size all consumed are = record {
   bytes = bytes;
   size = size ∙ sym (sized-block form sized bytes);
   valid = sized-valid form sized bytes;
   taken = subst (Consumes old now) (take_all count bytes (omega (arith, size))) consumed;
-  rows_are =
-      mapped (λ i. take 182 (record_of form bytes (record_at i))) rows 208 [] height
-      (λ i below. put.rows_set i below (record_at-lt i below));
-  marks_are =
-      mapped (λ i. record_marks form bytes (record_at i)) marks 208 [] marks_height
-      (λ i below. put.marks_set i below (record_at-lt i below) ∙ sym (sized-marks form sized bytes (record_at i)));
+  rows_are = are.0;
+  marks_are = are.1;
 }
+
+-- the rows and marks of the 208 recorded rows that are put are those captured in the bytes
+pub all_put : (form : Form) → HasSize form → (rows : List (List ℕ)) (marks : List (List Bool)) (bytes : List ℕ)
+    → length rows ≡ 208 → length marks ≡ 208 → ArePut form bytes rows marks 208
+    → (rows ≡ captured_rows form bytes) × (marks ≡ captured_marks form bytes)
+unfolding captured_rows captured_marks
+all_put form sized rows marks bytes height marks_height put = (
+  mapped (λ i. take 182 (record_of form bytes (record_at i))) rows 208 [] height
+      (λ i below. put.rows_set i below (record_at-lt i below)),
+  mapped (λ i. record_marks form bytes (record_at i)) marks 208 [] marks_height
+      (λ i below. put.marks_set i below (record_at-lt i below) ∙ sym (sized-marks form sized bytes (record_at i))),
+)
 
 -- recorded row k, by the number of its bytes
 pub record_cut : (form : Form) (bytes : List ℕ) (size k : ℕ) → size ≡ record_size form

@@ -5,6 +5,7 @@ pub mod ClearMarks
 pub mod Columns
 pub mod Mapped
 pub mod MarkLists
+pub mod FlatRows
 pub mod WorkParts
 pub mod FetchedCounts
 pub mod Fetching

@@ -8,7 +8,7 @@ use Rattle.coding.specs.Within.{IsWithin, block_weight}
 use Rattle.dvd_capture.specs.declared.form.Form.TheVariants.{Plain}
 
 -- no place of a plain row is marked
-plain_marks : (own : List ℕ) → captured_marks Plain own ≡ replicate 208 (replicate 182 false)
+pub plain_marks : (own : List ℕ) → captured_marks Plain own ≡ replicate 208 (replicate 182 false)
 unfolding captured_marks
 plain_marks own = refl
 

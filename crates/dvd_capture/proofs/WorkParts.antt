@@ -3,18 +3,19 @@ use Rattle.std.proofs.Common.{◌≡◌, ◌∙◌, ℕ, ◌<◌, false, List, [
 use Rattle.std.proofs.lemmas.List.{get_or-map, length-map}
 use Rattle.coding.specs.Product.{place}
 use Rattle.dvd_capture.specs.Answers.{marks_line}
-use Rattle.dvd_capture.specs.Parts.{column_answers, column_words, marks_of_row, marks_rows, received_rows}
+use Rattle.dvd_capture.specs.Parts.{column_answers, column_words, marks_of_row, marks_rows, received_bytes, received_rows}
 use Rattle.coding.specs.TwoPass.{from_columns}
 use Rattle.dvd_capture.specs.declared.parts.ColumnAnswer.{ColumnAnswer}
 use Rattle.dvd_capture.specs.declared.parts.Columns.{Columns}
 use Rattle.dvd_capture.specs.declared.parts.Marks.{Marks}
 use Rattle.dvd_capture.specs.declared.parts.Received.{Received}
 use Rattle.dvd_capture.proofs.Columns.{from_columns-line}
+use Rattle.dvd_capture.proofs.FlatRows.{rows_in-height}
 use Rattle.dvd_capture.proofs.MarkLists.{length-line}
 
 -- there are 208 rows
 pub rows-height : (received : Received) → length (received_rows received) ≡ 208
-rows-height received = sym received.rows.ok.0 ∙ received.size
+rows-height received = rows_in-height (received_bytes received)
 
 -- and as many rows of marks
 pub marks-height : (marks : Marks) → length (marks_rows marks) ≡ 208

@@ -6,12 +6,18 @@ use Rattle.dvd_capture.specs.declared.parts.AnswerRow.{AnswerRow}
 use Rattle.dvd_capture.specs.declared.parts.Answers.{Answers}
 use Rattle.dvd_capture.specs.declared.parts.ColumnAnswer.{ColumnAnswer}
 use Rattle.dvd_capture.specs.declared.parts.Columns.{Columns}
+use Rattle.dvd_capture.specs.declared.parts.Received.{Received}
 use Rattle.dvd_capture.specs.declared.parts.Sectors.{Sectors}
 use Rattle.dvd_capture.specs.contracts.parts.Answers.{the_row as answers_row}
 use Rattle.dvd_capture.specs.contracts.parts.Columns.{the_row as columns_row}
+use Rattle.dvd_capture.specs.contracts.parts.Received.{the_row as received_row}
 use Rattle.dvd_capture.specs.contracts.parts.Sectors.{the_row as sectors_row}
 use Rattle.dvd_capture.specs.contracts.parts.AnswerRow.{the_row as answer_row}
 use Rattle.dvd_capture.specs.contracts.parts.ColumnAnswer.{the_row as column_row}
+
+-- other bytes received, as many as before
+abbrev pub with_received : Received → List ℕ → Received
+with_received received bytes = record { bytes = with_items received.bytes bytes; size = received.size }
 
 -- other row answers, as many as before
 abbrev pub with_answers : Answers → List AnswerRow → Answers
@@ -24,6 +30,10 @@ with_columns columns all = record { all = with_items columns.all all; size = col
 -- another sector f
 abbrev pub with_sector : Sectors → ℕ → List ℕ → Sectors
 with_sector sectors f main = record { all = with_item sectors.all f main; size = sectors.size }
+
+-- the received bytes are lent for writing, and their buffer has them back, as many as before
+abbrev pub LendsBytes : MutBor Received → MutBor (List ℕ) → Fml
+LendsBytes received bytes = Lends received_row (Array u8 0) received bytes (with_received received.now)
 
 -- the row answers of a block are lent for writing, and their buffer has them back, as many as before
 abbrev pub LendsAnswers : MutBor Answers → MutBor (List AnswerRow) → Fml

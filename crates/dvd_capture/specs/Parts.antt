@@ -1,5 +1,6 @@
 -- What the contracts see of the buffers of a captured block.
-use Rattle.std.specs.Prelude.{ℕ, Bool, List, map}
+use Rattle.std.specs.Prelude.{ℕ, ◌*◌, Bool, List, drop, map, take}
+use Rattle.std.specs.List.{range_with_len}
 use Rattle.dvd_capture.specs.MarkBits.{marks_of}
 use Rattle.dvd_capture.specs.declared.parts.Received.{Received}
 use Rattle.dvd_capture.specs.declared.parts.Marks.{Marks}
@@ -10,9 +11,21 @@ use Rattle.dvd_capture.specs.declared.parts.Columns.{Columns}
 use Rattle.dvd_capture.specs.declared.parts.Sectors.{Sectors}
 use Rattle.dvd_capture.specs.declared.row_marks.RowMarks.{RowMarks}
 
--- the 208 received rows of 182 bytes
+-- row i of rows that lie one after the other
+abbrev pub row_in : List ℕ → ℕ → List ℕ
+row_in bytes i = take 182 (drop (182 * i) bytes)
+
+-- the 208 rows of 182 bytes that lie so
+unfoldable pub rows_in : List ℕ → List (List ℕ)
+rows_in bytes = map (row_in bytes) (range_with_len 0 208)
+
+-- the bytes of the received rows
+abbrev pub received_bytes : Received → List ℕ
+received_bytes received = received.bytes.items
+
+-- the 208 received rows
 abbrev pub received_rows : Received → List (List ℕ)
-received_rows received = received.rows.items
+received_rows received = rows_in (received_bytes received)
 
 -- the marks of one row
 abbrev pub marks_of_row : RowMarks → List Bool

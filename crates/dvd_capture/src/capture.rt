@@ -1,13 +1,14 @@
 //! Captured blocks are read from a source. A recorded row, or record, is a row at its place in the order of recording,
 //! with its mark bits after it in the marked form. `tactic` names lemmas for the prover. Numbers of bytes have 32 bits
 //! in answers: the longest block, a listed one with all its runs, has 113,570 bytes.
-ghost use Rattle.std.specs.Prelude.{◌≡◌, ◌≢◌, ℕ, ◌*◌, ◌<◌, ◌==◌, if◌then◌else◌, length, take, slice_set};
+ghost use Rattle.std.specs.Prelude.{◌≡◌, ◌≢◌, ℕ, ◌*◌, ◌<◌, ◌==◌, if◌then◌else◌, Bool, List, length, take, slice_set};
 ghost use Rattle.coding.specs.Recording.{row_at};
-ghost use Rattle.dvd_capture.specs.Captured.{HasSize, block_size, marks_in, record_size};
+ghost use Rattle.dvd_capture.specs.Captured.{HasSize, block_size, captured_marks, captured_rows, marks_in, record_size};
 ghost use Rattle.dvd_capture.specs.Parts.{marks_rows, received_rows};
 ghost use Rattle.dvd_capture.specs.Fetching.{Fetches};
 ghost use Rattle.dvd_capture.specs.Inner.Putting.{ArePut};
 ghost use Rattle.dvd_capture.specs.Works.{marks_of_work, rows_of, stage_of};
+ghost use Rattle.dvd_capture.specs.declared.form.Form.TheVariants.{Plain, Marked};
 ghost use Rattle.dvd_capture.specs.declared.stage.Stage.TheVariants.{Empty, Fetched};
 ghost use Rattle.dvd_capture.specs.declared.capture.FetchAnswer.TheVariants.{Full, End, Short, BadMarks};
 
@@ -18,9 +19,6 @@ use crate::stage::Stage;
 use crate::work::Work;
 use dvd_block::row_of_record;
 use dvd_ports::{Failed, Source, read_whole};
-
-// The bytes of a block in the form that has most, of those that give each block as many.
-const MOST_BLOCK: usize = 208 * 205;
 
 /// What a source gave for one block.
 #[derive(Clone, Copy, Debug, PartialEq, Eq)]
@@ -68,49 +66,58 @@ fn fetch_parts<S: Source>(
     ensures { Fetches form (S.seen src.old) (S.seen src.new) (received_rows received.new) (marks_rows marks.new) result }
 {
     match form {
-        Form::Plain | Form::Marked => fetch_rows(src, form, received, marks),
+        Form::Plain => fetch_plain(src, received, marks),
+        Form::Marked => fetch_marked(src, received, marks),
         Form::Listed => fetch_listed(src, received, marks),
     }
 }
 
-// Reads the 208 recorded rows of a block, through as many bytes as its form has. The listed form has its rows read here
-// too, as a plain block. The clause `never` says that BadMarks comes from runs alone.
-pub(crate) fn fetch_rows<S: Source>(
+// Reads a block without marks. Its rows come straight into their buffer in the order of recording, since one read can't
+// fill rows that are apart, and are put in the order of the block there. Where not all came, what the rows had before is
+// lost, and nobody may read them: the block's stage is Empty then. The listed form has its rows read here too. The clause
+// `never` says that BadMarks comes from runs alone.
+pub(crate) fn fetch_plain<S: Source>(
     src: &mut S,
-    form: Form,
     received: &mut Received,
     marks: &mut Marks,
 ) -> FetchAnswer
-    requires { HasSize form }
-    ensures fetches { Fetches form (S.seen src.old) (S.seen src.new) (received_rows received.new) (marks_rows marks.new) result }
+    ensures fetches { Fetches Plain (S.seen src.old) (S.seen src.new) (received_rows received.new) (marks_rows marks.new) result }
     ensures never { (at : ℕ) → result ≢ BadMarks at }
 {
-    // One buffer serves both forms: two would take twice the stack.
-    let mut buffer = [0; MOST_BLOCK];
-    fetch_by(src, form, &mut buffer[..form.size()], received, marks)
+    let answer = fill(src, Form::Plain, received.bytes_mut());
+    if answer == FetchAnswer::Full {
+        received.put_in_order();
+        marks.clear();
+    }
+    answer
 }
 
-// Reads the 208 recorded rows of a block by a buffer of its size. They are read as one list and then put in their
-// places, since one read can't fill rows that are apart. So no row and no mark is written before all bytes have come.
+// Reads a block that has marks after the bytes of each row, by a buffer for both: 42,640 bytes don't fit in the rows.
+fn fetch_marked<S: Source>(src: &mut S, received: &mut Received, marks: &mut Marks) -> FetchAnswer
+    ensures { Fetches Marked (S.seen src.old) (S.seen src.new) (received_rows received.new) (marks_rows marks.new) result }
+{
+    let mut buffer = [0; 208 * 205];
+    let answer = fill(src, Form::Marked, &mut buffer);
+    if answer == FetchAnswer::Full {
+        put_records(received, marks, Form::Marked, &buffer);
+    }
+    answer
+}
+
+// Fills a buffer with the bytes of a block. Where all came, the block is the rows and marks that are captured in them.
 #[tactic(auto, using(crate::proofs::FetchedCounts::cut_counts))]
-fn fetch_by<S: Source>(
-    src: &mut S,
-    form: Form,
-    buffer: &mut [u8],
-    received: &mut Received,
-    marks: &mut Marks,
-) -> FetchAnswer
+fn fill<S: Source>(src: &mut S, form: Form, buffer: &mut [u8]) -> FetchAnswer
     requires form { HasSize form }
     requires size { length buffer.old ≡ block_size form }
-    ensures fetches { Fetches form (S.seen src.old) (S.seen src.new) (received_rows received.new) (marks_rows marks.new) result }
+    ensures size { length buffer.new ≡ block_size form }
+    ensures fetches { (rows : List (List ℕ)) (marks : List (List Bool))
+        → (result ≡ Full → (rows ≡ captured_rows form buffer.new) × (marks ≡ captured_marks form buffer.new))
+        → Fetches form (S.seen src.old) (S.seen src.new) rows marks result }
     ensures never { (at : ℕ) → result ≢ BadMarks at }
 {
     match read_whole(src, buffer) {
         Ok(count) if count < buffer.len() => cut_off(count),
-        Ok(_) => {
-            put_rows(received, marks, form, buffer);
-            FetchAnswer::Full
-        }
+        Ok(_) => FetchAnswer::Full,
         Err(Failed) => FetchAnswer::ReadFault,
     }
 }
@@ -130,24 +137,8 @@ pub fn cut_off(bytes: usize) -> FetchAnswer
     }
 }
 
-// Sets all rows and their marks to those in these bytes.
-fn put_rows(received: &mut Received, marks: &mut Marks, form: Form, bytes: &[u8])
-    requires { length bytes.now ≡ record_size form * 208 }
-    ensures { ArePut form bytes.now (received_rows received.new) (marks_rows marks.new) 208 }
-{
-    match form {
-        // The bytes of a listed block's rows are those of a plain one. No chunk is left over: 37,856 is 208 times 182.
-        Form::Plain | Form::Listed => {
-            let (records, _) = bytes.as_chunks::<182>();
-            received.set_recorded(records);
-            marks.clear();
-        }
-        Form::Marked => put_records(received, marks, form, bytes),
-    }
-}
-
-// The same where each recorded row has its marks after it, so that no two rows are side by side: they are put one by
-// one. The contracts are of any form.
+// Sets all rows and their marks to those in these bytes, in which each recorded row has its marks after it: so no two
+// rows are side by side, and they are put one by one. The contracts are of any form.
 fn put_records(received: &mut Received, marks: &mut Marks, form: Form, bytes: &[u8])
     requires { length bytes.now ≡ record_size form * 208 }
     ensures { ArePut form bytes.now (received_rows received.new) (marks_rows marks.new) 208 }

@@ -7,6 +7,7 @@ mod form; // the forms in which a captured block is stored
 mod header; // the header of a listed capture
 pub mod laws; // what holds of every captured block, as contracts alone
 mod listed; // blocks in the listed form, to a sink and from a source
+mod order; // recorded rows put in the order of the block
 pub mod parts; // the buffers of a captured block, lent one by one
 mod places; // the marks of a block in the order of recording
 mod row_marks; // the marks of one row

@@ -14,8 +14,7 @@ ghost use Rattle.dvd_capture.specs.Rule.{HasBlock};
 ghost use Rattle.dvd_capture.specs.Works.{marks_of_work, rows_of, stage_of};
 ghost use Rattle.dvd_capture.specs.declared.form.Form.TheVariants.{Listed};
 
-use crate::capture::{FetchAnswer, fetch_rows};
-use crate::form::Form;
+use crate::capture::{FetchAnswer, fetch_plain};
 use crate::parts::{Marks, Received};
 use crate::places::PLACES;
 use crate::runs::{Fields, MOST_RUNS, Taken, list_runs, take_runs};
@@ -70,7 +69,7 @@ pub(crate) fn fetch_listed<S: Source>(
 ) -> FetchAnswer
     ensures { Fetches Listed (S.seen src.old) (S.seen src.new) (received_rows received.new) (marks_rows marks.new) result }
 {
-    match fetch_rows(src, Form::Plain, received, marks) {
+    match fetch_plain(src, received, marks) {
         FetchAnswer::Full => fetch_marks(src, marks),
         other => other,
     }

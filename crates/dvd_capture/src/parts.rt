@@ -14,17 +14,19 @@ ghost use Rattle.dvd_capture.specs.Inner.Listing.{IsFound};
 ghost use Rattle.dvd_capture.specs.Captured.{marks_in, record_size};
 
 use crate::form::Form;
+use crate::order::{put_in_order, set_rows};
 use crate::row_marks::RowMarks;
 use dvd_ports::NoMemory;
 use rs_decode::Fix;
 use rs_lanes::Row;
 use std::alloc::Global;
 
-/// The received rows: 208 of 182 bytes, 37,856 bytes in sum.
+/// The received rows: 208 of 182 bytes, 37,856 bytes in sum. They lie one after the other, so that a block comes straight
+/// into them.
 #[derive(Drop)]
 pub struct Received {
-    rows: Vec<[u8; 182]>,
-    pub ghost size: { vec_len rows ≡ 208 },
+    bytes: Vec<u8>,
+    pub ghost size: { vec_len bytes ≡ 37_856 },
 }
 
 /// A mark for each received place, a bit each: 208 rows of 23 bytes, 4,784 bytes in sum.
@@ -72,14 +74,16 @@ pub struct Sectors {
 }
 
 impl Received {
-    ghost use Rattle.dvd_capture.specs.Parts.{received_rows};
+    ghost use Rattle.dvd_capture.specs.Parts.{received_bytes, received_rows, row_in};
+    ghost use Rattle.dvd_capture.specs.Lends.{LendsBytes};
+    ghost use Rattle.std.specs.Borrow.{sem};
 
     /// Zeros. `NoMemory` may come at any time, and nothing is taken then.
     pub(crate) fn new(alloc: Global) -> Result<Received, NoMemory>
         ensures { IfOk result (λ received. received_rows received ≡ replicate 208 (replicate 182 0)) }
     {
-        let rows = vec![in alloc; [0; 182]; 208].map_err(|_| NoMemory)?;
-        Ok(Received { rows })
+        let bytes = vec![in alloc; 0; 37_856].map_err(|_| NoMemory)?;
+        Ok(Received { bytes })
     }
 
     /// The received rows.
@@ -87,7 +91,16 @@ impl Received {
         ensures rows { result.now ≡ received_rows self.now }
         ensures size { length result.now ≡ 208 }
     {
-        &self.rows
+        self.bytes.as_chunks::<182>().0
+    }
+
+    /// The bytes of the rows, lent for writing. Their number stays.
+    pub(crate) fn bytes_mut(&mut self) -> &mut [u8]
+        ensures* writes_back { sem 𝓛 (LendsBytes self.entry result) }
+        ensures bytes { result.now ≡ received_bytes self.old }
+        ensures size { length result.now ≡ 37_856 }
+    {
+        &mut self.bytes
     }
 
     /// Received row `i`.
@@ -95,7 +108,7 @@ impl Received {
         requires { i < 208 }
         ensures { result.now ≡ line (received_rows self.now) i }
     {
-        &self.rows[i]
+        &self.rows()[i]
     }
 
     /// Sets all rows.
@@ -103,18 +116,15 @@ impl Received {
         requires { length rows.now ≡ 208 }
         ensures { received_rows self.new ≡ rows.now }
     {
-        self.rows.copy_from_slice(rows);
+        self.bytes.copy_from_slice(rows.as_flattened());
     }
 
-    /// Sets all rows to these in the order of recording: the twelve rows of each data frame as one piece, and then a
-    /// row of outer parity. Rows of one frame are side by side in both orders, so that they are copied at once.
-    pub(crate) fn set_recorded(&mut self, records: &[[u8; 182]])
-        requires { length records.now ≡ 208 }
-        ensures { (i : ℕ) → i < 208 → line (received_rows self.new) i ≡ line records.now (record_at i) }
+    /// Puts the rows in the order of the block, where they are in the order of recording: the twelve rows of a frame are
+    /// side by side in both, so they move at once.
+    pub(crate) fn put_in_order(&mut self)
+        ensures { (i : ℕ) → i < 208 → row_in (received_bytes self.new) i ≡ row_in (received_bytes self.old) (record_at i) }
     {
-        for f in 0..16usize {
-            put_frame(&mut self.rows, f, &records[13 * f..13 * f + 13]);
-        }
+        put_in_order(&mut self.bytes);
     }
 
     /// Sets row `i`, and nothing else.
@@ -123,7 +133,7 @@ impl Received {
         requires size { length row.now ≡ 182 }
         ensures { received_rows self.new ≡ slice_set (received_rows self.old) i row.now }
     {
-        self.rows[i].copy_from_slice(row);
+        set_rows(&mut self.bytes, i, row);
     }
 
     /// Sets the byte in row `i` at place `j`, and nothing else.
@@ -133,7 +143,7 @@ impl Received {
         ensures received { received_rows self.new ≡ slice_set (received_rows self.old) i (slice_set (line (received_rows self.old) i) j byte) }
         ensures width { length (line (received_rows self.new) i) ≡ 182 }
     {
-        self.rows[i][j] = byte;
+        self.bytes[182 * i + j] = byte;
     }
 }
 
@@ -371,20 +381,4 @@ impl Sectors {
     {
         self.all.fill([0; 2048]);
     }
-}
-
-// Sets the rows of a block that are the thirteen recorded rows of frame `f`, and no others. The contract keeps only
-// those of the frames before, since frames are put in order and the later ones are overwritten.
-fn put_frame(rows: &mut [[u8; 182]], f: usize, records: &[[u8; 182]])
-    requires frame { f < 16 }
-    requires rows { length rows.old ≡ 208 }
-    requires records { length records.now ≡ 13 }
-    ensures size { length rows.new ≡ 208 }
-    ensures inner { (k : ℕ) → k < 12 → line rows.new (12 * f + k) ≡ line records.now k }
-    ensures parity { line rows.new (192 + f) ≡ line records.now 12 }
-    ensures others { (i : ℕ) → i < 12 * f → line rows.new i ≡ line rows.old i }
-    ensures parity_others { (i : ℕ) → 192 ≤ i → i < 192 + f → line rows.new i ≡ line rows.old i }
-{
-    rows[12 * f..12 * f + 12].copy_from_slice(&records[..12]);
-    rows[192 + f] = records[12];
 }

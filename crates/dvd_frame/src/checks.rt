@@ -66,8 +66,8 @@ fn divide_parts(front: &[u8], back: &[u8]) -> u32
 
 // The remainder of at most 2,080 bytes, as many as 65 chunks of 32: zeros in front of them change nothing. Each fold
 // needs 32 chunks after those that it leaves out. So the first leaves 32 chunks, which are 64 of half the size for the
-// next. After four folds by vectors 128 bytes are left to divide; a fifth would take 32 steps to spare sixteen words of
-// four. A fold begins where the one before ended.
+// next. After four folds by vectors 128 bytes are left to divide; a fifth would take 32 steps to spare eight words of
+// eight. A fold begins where the one before ended.
 // All is inlined: where the lengths are known, only the bytes in front are blanked.
 #[inline(always)]
 fn folded(front: &[u8], back: &[u8]) -> u32
@@ -85,7 +85,7 @@ fn folded(front: &[u8], back: &[u8]) -> u32
     with_bytes(0, &bytes[1952..])
 }
 
-// The remainder of what was read so far, with these bytes more: by words of four bytes, and the last few by themselves.
+// The remainder of what was read so far, with these bytes more: by words of eight bytes, and the last few by themselves.
 fn with_bytes(register: u32, bytes: &[u8]) -> u32
     ensures { (rest : List ℕ) → divided_from result rest ≡ divided_from register (bytes.now ++ rest) }
 {

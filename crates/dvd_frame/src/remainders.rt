@@ -1,5 +1,5 @@
-//! Division for the EDC (ECMA-267, 16.4), a byte or four at once. The remainder of a sum is the sum of the remainders,
-//! so that four bytes are looked up apart from each other. In contracts `byte_remainder k` is what it leaves of a byte
+//! Division for the EDC (ECMA-267, 16.4), a byte or eight at once. The remainder of a sum is the sum of the remainders,
+//! so that eight bytes are looked up apart from each other. In contracts `byte_remainder k` is what it leaves of a byte
 //! followed by k bytes of zeros and by 32 zeros.
 ghost use Rattle.std.specs.Prelude.{◌≡◌, ℕ, ◌++◌, map, replicate};
 ghost use Rattle.std.specs.List.{range_with_len};

@@ -9,13 +9,13 @@ use Rattle.dvd_capture.proofs.listed.fetch_listed.Goals as goal
 
 pub returns-in-Full : goal.returns-in-Full
 returns-in-Full g c =
-    let captured = c.fetch_rows.ensures.fetches.full c.in-Full.is in
+    let captured = c.fetch_plain.ensures.fetches.full c.in-Full.is in
     let marks = c.fetch_marks.new.marks in
     let answer = c.fetch_marks.result in
     let high = marks-height marks in
     let wide = marks-width marks in
     let fetched = c.fetch_marks.ensures.fetched captured.bytes (rows-unmarked _ _ _ _ captured) in
-    let first = subst (λ a. FetchCounts a (g.S.Source.seen c.args.src.now) (g.S.Source.seen c.fetch_rows.new.src)) c.in-Full.is c.fetch_rows.ensures.fetches.counts in record {
+    let first = subst (λ a. FetchCounts a (g.S.Source.seen c.args.src.now) (g.S.Source.seen c.fetch_plain.new.src)) c.in-Full.is c.fetch_plain.ensures.fetches.counts in record {
       full = unit-full _ _ _ _ _ (marks_rows marks) captured high wide answer fetched;
       end = λ is. absurd (unit-end _ _ _ _ _ (marks_rows marks) captured high wide answer fetched is);
       short = λ count. unit-short _ _ _ _ _ (marks_rows marks) captured high wide answer count fetched;
@@ -26,11 +26,11 @@ returns-in-Full g c =
 
 pub returns-in_default : goal.returns-in_default
 returns-in_default g c =
-    let rows = c.fetch_rows.ensures.fetches in record {
+    let rows = c.fetch_plain.ensures.fetches in record {
       full = λ is. absurd (c.in_default.not-Full is);
       end = λ is. rows-ended _ _ 0 (rows.end is);
       short = λ count is. let ends = rows.short count is in (ends.0, rows-ended _ _ count ends.1);
       fault = λ is. rows-failed _ _ (rows.fault is);
-      broken = λ at is. absurd (c.fetch_rows.ensures.never at is);
+      broken = λ at is. absurd (c.fetch_plain.ensures.never at is);
       counts = rows.counts;
     }

@@ -3,6 +3,7 @@ use Rattle.std.proofs.Common.{◌≡◌, ◌∙◌, ℕ, List, ap, length, take,
 use Rattle.std.proofs.lemmas.List.{take_all}
 use Rattle.coding.specs.Found.{block_differences}
 use Rattle.dvd_capture.proofs.Columns.{length-from_columns}
+use Rattle.dvd_capture.proofs.WorkParts.{rows-height}
 use Rattle.dvd_capture.specs.Parts.{column_answers}
 use Rattle.dvd_capture.specs.Works.{block_of, rows_of}
 use Rattle.dvd_read.specs.Inner.Found.{words_of_columns}
@@ -18,7 +19,7 @@ loop-i-preserved c =
     let rows : List (List ℕ) = rows_of c.args.work.now in
     let block : List (List ℕ) = block_of c.args.work.now in
     let i : ℕ = c.loop-i.i in
-    let size : length rows ≡ 208 = omega (arith, c.args.work.now.received.size, c.args.work.now.received.rows.ok.0) in
+    let size : length rows ≡ 208 = rows-height c.args.work.now.received in
     let counted = rw (c.rows-answers.ensures.rows, c.all-columns.ensures.columns) at c.row_corrections-count.ensures.count in
     record {
       counted = block_differences-next rows block i c.loop-i.count c.row_corrections-count.result (omega arith)
@@ -32,7 +33,7 @@ pub returns : goal.returns
 returns c =
     let rows : List (List ℕ) = rows_of c.args.work.now in
     let block : List (List ℕ) = block_of c.args.work.now in
-    let size : length rows ≡ 208 = omega (arith, c.args.work.now.received.size, c.args.work.now.received.rows.ok.0) in
+    let size : length rows ≡ 208 = rows-height c.args.work.now.received in
     c.loop-i.invariant.counted
     ∙ ap (λ l. block_differences l (take c.loop-i.i block)) (take_all c.loop-i.i rows (omega arith))
     ∙ ap (block_differences rows) (take_all c.loop-i.i block (omega (arith, length-from_columns (words_of_columns (column_answers c.args.work.now.columns)))))

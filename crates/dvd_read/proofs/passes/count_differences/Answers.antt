@@ -5,6 +5,7 @@ use Rattle.coding.specs.Distance.{distance}
 use Rattle.dvd_capture.specs.Parts.{received_rows}
 use Rattle.coding.specs.TwoPass.{from_columns}
 use Rattle.dvd_capture.proofs.Columns.{length-from_columns}
+use Rattle.dvd_capture.proofs.WorkParts.{rows-height}
 use Rattle.coding.specs.Found.{block_differences}
 use Rattle.dvd_read.specs.Inner.Found.{words_of_columns}
 use Rattle.dvd_read.proofs.Differences.{block_differences-none, block_differences-next}
@@ -18,7 +19,7 @@ loop-i-preserved c =
     let rows = received_rows c.args.received.now in
     let block = from_columns (words_of_columns c.args.columns.now) in
     let i = c.loop-i.i in
-    let size : length rows ≡ 208 = omega (arith, c.args.received.now.size, c.args.received.now.rows.ok.0) in
+    let size : length rows ≡ 208 = rows-height c.args.received.now in
     record {
       counted = block_differences-next rows block i c.loop-i.count c.row_differences-count.result (omega arith)
           (omega (arith, length-from_columns (words_of_columns c.args.columns.now))) c.loop-i.invariant.counted
@@ -31,7 +32,7 @@ pub returns : goal.returns
 returns c =
     let rows = received_rows c.args.received.now in
     let block = from_columns (words_of_columns c.args.columns.now) in
-    let size : length rows ≡ 208 = omega (arith, c.args.received.now.size, c.args.received.now.rows.ok.0) in
+    let size : length rows ≡ 208 = rows-height c.args.received.now in
     c.loop-i.invariant.counted
     ∙ ap (λ l. block_differences l (take c.loop-i.i block)) (take_all c.loop-i.i rows (omega arith))
     ∙ ap (block_differences rows) (take_all c.loop-i.i block (omega (arith, length-from_columns (words_of_columns c.args.columns.now))))
