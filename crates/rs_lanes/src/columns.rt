@@ -51,7 +51,7 @@ pub fn column_values<T: Row>(rows: &[T], at: usize) -> [u8x32; 16]
     ensures values { (k j : ℕ) → k < 16 → j < 32 → place result k j ≡ value (column (map T.word rows.now) (at + j)) (power alpha k) }
 {
     let mut thirds = [[u8x32::splat(0); 3]; 85];
-    put_thirds(rows, at, &mut thirds);
+    put_thirds(rows, 208, at, &mut thirds);
     values_of(&thirds)
 }
 
@@ -65,7 +65,7 @@ pub fn parity_of_columns(rows: &[[u8; 182]], at: usize) -> [u8x32; 16]
     ensures encoded { (j : ℕ) → j < 32 → IsEncoded 208 16 (column rows.now (at + j)) (column rows.now (at + j) ++ column result j) }
 {
     let mut thirds = [[u8x32::splat(0); 3]; 85];
-    put_thirds(rows, at, &mut thirds);
+    put_thirds(rows, 192, at, &mut thirds);
     parity_of(&PO_MATRIX, &values_of(&thirds))
 }
 
@@ -123,19 +123,21 @@ fn lanes_at(row: &[u8; 182], at: usize) -> u8x32
 
 // Sets all thirds to those of the 32 columns from `at` on, of 208 rows or of fewer with zeros below. Place `place` of a
 // third is made of that place of the three pieces. They are put where the caller has them, so that 8,160 bytes needn't
-// be copied. Also ensures that the elements of the columns are bytes.
+// be copied. `count` is the number of rows, as a constant where this is inlined: few places need a test then. Also
+// ensures that the elements of the columns are bytes.
 #[inline(always)]
-fn put_thirds<T: Row>(rows: &[T], at: usize, thirds: &mut [[u8x32; 3]; 85])
+fn put_thirds<T: Row>(rows: &[T], count: usize, at: usize, thirds: &mut [[u8x32; 3]; 85])
     requires at { at + 32 ≤ 182 }
-    requires rows { length rows.now ≤ 208 }
+    requires count { count ≤ 208 }
+    requires rows { length rows.now ≡ count }
     ensures bytes { (j : ℕ) → j < 32 → All IsByte (column (map T.word rows.now) (at + j)) }
     ensures thirds { (i j : ℕ) → i < 3 → j < 32 → IsThird i (filled 208 (column (map T.word rows.now) (at + j))) (third thirds.new i j) }
 {
     for place in 0..85 {
         thirds[place] = thirds_of(
-            padded(rows, at, place),
-            padded(rows, at, 85 + place),
-            padded(rows, at, 170 + place),
+            padded(rows, count, at, place),
+            padded(rows, count, at, 85 + place),
+            padded(rows, count, at, 170 + place),
         );
     }
 }
@@ -143,8 +145,9 @@ fn put_thirds<T: Row>(rows: &[T], at: usize, thirds: &mut [[u8x32; 3]; 85])
 // A place of these columns after 47 zeros are put before each. A column has 208 bytes and three pieces 255. Zeros in
 // front of a word change none of its values.
 #[inline(always)]
-fn padded<T: Row>(rows: &[T], at: usize, place: usize) -> u8x32
+fn padded<T: Row>(rows: &[T], count: usize, at: usize, place: usize) -> u8x32
     requires at { at + 32 ≤ 182 }
+    requires rows { length rows.now ≡ count }
     requires place { place < 255 }
     ensures { (j : ℕ) → j < 32
         → slice_index result j ≡ slice_index (behind_zeros 47 (filled 208 (column (map T.word rows.now) (at + j)))) place }
@@ -152,18 +155,19 @@ fn padded<T: Row>(rows: &[T], at: usize, place: usize) -> u8x32
     if place < 47 {
         u8x32::splat(0)
     } else {
-        lanes_or_zeros(rows, place - 47, at)
+        lanes_or_zeros(rows, count, place - 47, at)
     }
 }
 
 // The 32 bytes of row `i` from place `at` on, or zeros below the last row. Rows that are missing are those of the
 // parity, in whose place zeros are read.
 #[inline(always)]
-fn lanes_or_zeros<T: Row>(rows: &[T], i: usize, at: usize) -> u8x32
-    requires { at + 32 ≤ 182 }
+fn lanes_or_zeros<T: Row>(rows: &[T], count: usize, i: usize, at: usize) -> u8x32
+    requires at { at + 32 ≤ 182 }
+    requires rows { length rows.now ≡ count }
     ensures { (j : ℕ) → j < 32 → slice_index result j ≡ place (map T.word rows.now) i (at + j) }
 {
-    if i < rows.len() {
+    if i < count {
         lanes_at(rows[i].row(), at)
     } else {
         u8x32::splat(0)

@@ -20,20 +20,20 @@ pub loop-place-preserved : goal.loop-place-preserved
 loop-place-preserved g c =
     let rows = map g.T.Row.word c.args.rows.now in
     thirds_more 47 (λ j. filled 208 (column rows (c.args.at + j))) c.loop-place.place c.loop-place.thirds c.padded.result c.padded-in-loop-place.result c.padded-in-loop-place-2.result c.thirds_of.result
-    (omega arith) (λ j. whole g.T.Row.word c.args.rows.now (c.args.at + j) c.requires.rows) c.loop-place.invariant
+    (omega arith) (λ j. whole g.T.Row.word c.args.rows.now (c.args.at + j) (omega (arith, c.requires))) c.loop-place.invariant
     c.padded.ensures c.padded-in-loop-place.ensures c.padded-in-loop-place-2.ensures c.thirds_of.ensures.bytes c.thirds_of.ensures.thirds
 
 pub returns-clause-bytes : goal.returns-clause-bytes
 returns-clause-bytes g c = λ j below.
     let rows = map g.T.Row.word c.args.rows.now in
     let done : c.loop-place.place ≡ 85 = omega arith in
-    filled-bytes 208 (column rows (c.args.at + j)) (short g.T.Row.word c.args.rows.now (c.args.at + j) c.requires.rows)
-    (thirds_bytes 47 (λ i. filled 208 (column rows (c.args.at + i))) c.loop-place.thirds j (whole g.T.Row.word c.args.rows.now (c.args.at + j) c.requires.rows)
+    filled-bytes 208 (column rows (c.args.at + j)) (short g.T.Row.word c.args.rows.now (c.args.at + j) (omega (arith, c.requires)))
+    (thirds_bytes 47 (λ i. filled 208 (column rows (c.args.at + i))) c.loop-place.thirds j (whole g.T.Row.word c.args.rows.now (c.args.at + j) (omega (arith, c.requires)))
     (subst (λ place. HasThirds 47 (λ i. filled 208 (column rows (c.args.at + i))) place c.loop-place.thirds) done c.loop-place.invariant) below)
 
 pub returns-clause-thirds : goal.returns-clause-thirds
 returns-clause-thirds g c = λ i j third below.
     let rows = map g.T.Row.word c.args.rows.now in
     let done : c.loop-place.place ≡ 85 = omega arith in
-    thirds_told 47 (λ m. filled 208 (column rows (c.args.at + m))) c.loop-place.thirds i j (whole g.T.Row.word c.args.rows.now (c.args.at + j) c.requires.rows)
+    thirds_told 47 (λ m. filled 208 (column rows (c.args.at + m))) c.loop-place.thirds i j (whole g.T.Row.word c.args.rows.now (c.args.at + j) (omega (arith, c.requires)))
     (subst (λ place. HasThirds 47 (λ m. filled 208 (column rows (c.args.at + m))) place c.loop-place.thirds) done c.loop-place.invariant) third below
