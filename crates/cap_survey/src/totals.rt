@@ -104,7 +104,7 @@ fn widened(rows: u8) -> u64
     u64::from(rows)
 }
 
-/// How many of some blocks are refused.
+/// How many of some blocks are refused. `bound` is for cap_draw, which counts those of a column in 32 bits.
 pub fn count_refused(cells: &[Cell]) -> u64
     ensures count { result ≡ count_by refused_of cells.now }
     ensures bound { result ≤ length cells.now }

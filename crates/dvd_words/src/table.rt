@@ -132,8 +132,10 @@ static COMMANDS: [CommandSpec<'static>; 12] = rows! {
     Convert  convert  Block  false false Any       must [sectors] may [sectors1 shape zones initial tail form];
 };
 
-/// The row of a command. That clap reads each row exactly is ensured here, where it is proved by computing: `free` says
-/// that clap's rules for the row are simple, and none depends on another option, as the parser needs it.
+/// The row of a command: the rows are in the order of `Command`. `free` is of the same row as clap is given it by
+/// `parser_for` (its definition is `app_for`): clap's rules for it are simple, and none depends on another option, which
+/// `parse_by` requires. It is a clause here since it is proved by computing each row where the table is: so a new command
+/// needs no proof of it.
 pub fn spec_of<'a>(command: Command) -> &'a CommandSpec<'a>
     ensures row { entry result.now ≡ command_entry command }
     ensures free { is_simple_and_free (app_for command) ≡ true }
@@ -141,7 +143,7 @@ pub fn spec_of<'a>(command: Command) -> &'a CommandSpec<'a>
     &COMMANDS[command as usize]
 }
 
-/// What a command goes over. It alone of a row is public: the closing line needs it, and the rest is for reading.
+/// What a command goes over. Of a row the other crates read this alone: the closing line needs it.
 pub fn unit_of(command: Command) -> Unit
     ensures { result ≡ (command_entry command).unit }
 {
