@@ -1,21 +1,17 @@
 -- Where a line ends in the bytes of a text.
-use Rattle.std.proofs.Common.{◌≡◌, ◌∙◌, ◌+◌, ◌<◌, ◌≤◌, ◌==◌, ℕ, suc, Bool, true, false, not, List, [], ◌∷◌, ◌++◌, length, take, drop, refl, ap, sym, arith, if◌then◌else◌, length-append, zero-add}
+use Rattle.std.proofs.Common.{◌≡◌, ◌∙◌, ◌+◌, ◌<◌, ◌≤◌, ◌==◌, ℕ, suc, Bool, true, false, not, List, [], ◌∷◌, ◌++◌, length, take, drop, refl, ap, sym, arith, if◌then◌else◌, length-append}
 use Rattle.std.proofs.lemmas.List.{drop_all, length-take-le, take_all}
+use Rattle.std.proofs.lemmas.List.Folds.{prefix_len-append}
+use Rattle.std.proofs.lemmas.List.Sums.{prefix_len-le-length}
 use Rattle.cap_map.specs.Fields.{line_length, lines_of, onto_first}
 use Rattle.cap_map.proofs.FirstLine.{first_line}
 
 -- bytes in which no line ends, before others
-by_longer : (b : Bool) (p q : List ℕ) → (if not b then line_length p + 1 else 0) ≡ suc (length p) → (line_length p ≡ length p → line_length (p ++ q) ≡ length p + line_length q)
-    → (if not b then line_length (p ++ q) + 1 else 0) ≡ suc (length p) + line_length q
-by_longer true p q within more = absurd (omega (arith, within))
-by_longer false p q within more = let rest = more (omega (arith, within)) in omega (arith, rest)
-
 pub longer : (p q : List ℕ) → line_length p ≡ length p → line_length (p ++ q) ≡ length p + line_length q
-longer [] q within = sym (zero-add (line_length q))
-longer (c ∷ p) q within = by_longer (c == 10) p q within (longer p q)
+longer p q within = grind (arith, prefix_len-append (λ c. not (c == 10)) p q, within)
 
 -- bytes in which no line ends, and then a line feed, are a line
-by_end : (b : Bool) (c : ℕ) (p rest : List ℕ) → (if not b then line_length p + 1 else 0) ≡ suc (length p)
+by_end : (b : Bool) (c : ℕ) (p rest : List ℕ) → (if not b then 1 + line_length p else 0) ≡ suc (length p)
     → (line_length p ≡ length p → lines_of (p ++ 10 ∷ rest) ≡ p ∷ lines_of rest)
     → (if b then [] ∷ lines_of (p ++ 10 ∷ rest) else onto_first c (lines_of (p ++ 10 ∷ rest))) ≡ (c ∷ p) ∷ lines_of rest
 by_end true c p rest within more = absurd (omega (arith, within))
@@ -43,14 +39,6 @@ overlong p c rest within other =
     let text = p ++ c ∷ rest in
     let size : length text ≡ length p + suc (length rest) = length-append p (c ∷ rest) in
     let more : line_length text ≡ length p + line_length (c ∷ rest) = longer p (c ∷ rest) within in
-    let one : line_length (c ∷ rest) ≡ line_length rest + 1 = rw other refl in
-    let fits : line_length text ≤ length text = bounded text in
+    let one : line_length (c ∷ rest) ≡ 1 + line_length rest = rw other refl in
+    let fits : line_length text ≤ length text = prefix_len-le-length (λ c. not (c == 10)) text in
     (take (line_length text) text, lines_of (drop (line_length text + 1) text), first_line text (omega (arith, size)), omega (arith, length-take-le (line_length text) text fits, more, one))
-  where
-    by_bounded : (b : Bool) (cs : List ℕ) → line_length cs ≤ length cs → (if not b then line_length cs + 1 else 0) ≤ suc (length cs)
-    by_bounded true cs less = omega arith
-    by_bounded false cs less = omega (arith, less)
-
-    bounded : (text : List ℕ) → line_length text ≤ length text
-    bounded [] = omega arith
-    bounded (c ∷ cs) = by_bounded (c == 10) cs (bounded cs)

@@ -1,8 +1,7 @@
 -- What a text begins with, and what comes after that.
 use Rattle.std.specs.Prelude.{ℕ, ◌&&◌, ◌||◌, nat_le, nat_lt, Bool, if◌then◌else◌, List, length, drop, take, decimal, bytes_eq, Option, Some, None, option_and_then}
 use Rattle.std.specs.Char.{is_digit}
-use Rattle.std.specs.List.{list_all}
-use Rattle.cap_map.specs.Fields.{run_of}
+use Rattle.std.specs.List.{list_all, prefix_len}
 use Rattle.cap_map.specs.Numbers.{digits_in}
 
 -- what comes after this prefix of a text, if the text has it
@@ -11,7 +10,7 @@ without_prefix front text = if bytes_eq (take (length front) text) front then So
 
 -- how many decimal digits a text begins with
 abbrev pub digits_of : List ℕ → ℕ
-digits_of = run_of (λ c. is_digit c 10)
+digits_of = prefix_len (λ c. is_digit c 10)
 
 -- The number that these digits write in decimal, and what comes after them. No number is written with a zero before it.
 abbrev pub number_first : List ℕ → Option (ℕ × List ℕ)

@@ -41,14 +41,7 @@ fn count_digits(text: &[u8]) -> usize
     ensures count { result ≡ digits_of text.now }
     ensures bound { result ≤ length text.now }
 {
-    let mut count = 0;
-    for byte in text {
-        if !byte.is_ascii_digit() {
-            return count;
-        }
-        count += 1;
-    }
-    count
+    text.iter().take_while(|byte| byte.is_ascii_digit()).count()
 }
 
 /// What comes after a number below a bound, if a text begins with one.

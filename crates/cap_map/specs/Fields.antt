@@ -1,5 +1,6 @@
 -- Lines, and the fields of a line between blanks.
-use Rattle.std.specs.Prelude.{ℕ, ◌+◌, ◌||◌, ◌==◌, Bool, not, if◌then◌else◌, List, [], ◌∷◌, drop, take}
+use Rattle.std.specs.Prelude.{ℕ, ◌||◌, ◌==◌, Bool, not, if◌then◌else◌, List, [], ◌∷◌, drop, take}
+use Rattle.std.specs.List.{prefix_len}
 
 -- a space, a tab or the carriage return of other systems
 abbrev pub is_blank : ℕ → Bool
@@ -9,17 +10,12 @@ is_blank c = c == 32 || (c == 9 || c == 13)
 abbrev pub ends_fields : ℕ → Bool
 ends_fields c = c == 35
 
--- how many bytes pass a test before the first that doesn't
-abbrev pub run_of : (ℕ → Bool) → List ℕ → ℕ
-run_of passes [] = 0
-run_of passes (c ∷ cs) = if passes c then run_of passes cs + 1 else 0
-
 -- how many blanks a text begins with, and how many bytes its next field then has
 abbrev pub blanks_of : List ℕ → ℕ
-blanks_of = run_of is_blank
+blanks_of = prefix_len is_blank
 
 abbrev pub field_length : List ℕ → ℕ
-field_length = run_of (λ c. not (is_blank c))
+field_length = prefix_len (λ c. not (is_blank c))
 
 -- the first field of a line; none is the field without a byte
 abbrev pub first_field : List ℕ → List ℕ
@@ -31,11 +27,11 @@ after_field line = let text = drop (blanks_of line) line in drop (field_length t
 
 -- the line up to its comment
 abbrev pub without_comment : List ℕ → List ℕ
-without_comment line = take (run_of (λ c. not (c == 35)) line) line
+without_comment line = take (prefix_len (λ c. not (c == 35)) line) line
 
 -- the bytes before the first line feed
 abbrev pub line_length : List ℕ → ℕ
-line_length = run_of (λ c. not (c == 10))
+line_length = prefix_len (λ c. not (c == 10))
 
 -- a byte put before the first of these lines, or before none as a line of its own
 abbrev pub onto_first : ℕ → List (List ℕ) → List (List ℕ)

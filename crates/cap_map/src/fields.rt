@@ -2,7 +2,8 @@
 //! goes from `#` to the end of its line, also after fields. `draft` asks for the fields, and `map` for the length of a
 //! line. The clauses `bound` are for the callers, which cut the text at a count.
 ghost use Rattle.std.specs.Prelude.{◌≡◌, ◌≤◌, ◌==◌, ◌+◌, not, length};
-ghost use Rattle.cap_map.specs.Fields.{after_field, blanks_of, field_length, first_field, is_blank, line_length, run_of, without_comment};
+ghost use Rattle.std.specs.List.{prefix_len};
+ghost use Rattle.cap_map.specs.Fields.{after_field, blanks_of, field_length, first_field, is_blank, line_length, without_comment};
 ghost use Rattle.cap_map.specs.Inner.{field_bytes};
 ghost use Rattle.cap_map.specs.Lines.{line_fields};
 
@@ -47,14 +48,7 @@ fn count_blanks(text: &[u8]) -> usize
     ensures count { result ≡ blanks_of text.now }
     ensures bound { result ≤ length text.now }
 {
-    let mut count = 0;
-    for byte in text {
-        if !is_blank(*byte) {
-            return count;
-        }
-        count += 1;
-    }
-    count
+    text.iter().take_while(|byte| is_blank(**byte)).count()
 }
 
 // How many bytes come before the first blank.
@@ -62,19 +56,12 @@ fn count_others(text: &[u8]) -> usize
     ensures count { result ≡ field_length text.now }
     ensures bound { result ≤ length text.now }
 {
-    let mut count = 0;
-    for byte in text {
-        if is_blank(*byte) {
-            return count;
-        }
-        count += 1;
-    }
-    count
+    text.iter().take_while(|byte| !is_blank(**byte)).count()
 }
 
 // Where the comment of a line begins, or where the line ends.
 fn comment_start(line: &[u8]) -> usize
-    ensures count { result ≡ run_of (λ c. not (c == 35)) line.now }
+    ensures count { result ≡ prefix_len (λ c. not (c == 35)) line.now }
     ensures bound { result ≤ length line.now }
 {
     bytes_before(line, b'#')
@@ -90,17 +77,10 @@ pub fn line_length(text: &[u8]) -> usize
 
 // How many bytes come before the first that is this one: all where none is, so that the last line needs no line feed.
 fn bytes_before(text: &[u8], end: u8) -> usize
-    ensures count { result ≡ run_of (λ c. not (c == end)) text.now }
+    ensures count { result ≡ prefix_len (λ c. not (c == end)) text.now }
     ensures bound { result ≤ length text.now }
 {
-    let mut count = 0;
-    for byte in text {
-        if *byte == end {
-            return count;
-        }
-        count += 1;
-    }
-    count
+    text.iter().take_while(|byte| **byte != end).count()
 }
 
 // A carriage return is one, so that lines may end in it. A line feed isn't: no line has one.

@@ -1,7 +1,7 @@
 -- Texts and numbers at the beginning of a text.
 use Rattle.std.specs.Prelude.{ℕ, ◌+◌, ◌*◌, ◌^◌, ◌&&◌, ◌||◌, ◌==◌, nat_le, nat_lt, Bool, if◌then◌else◌, List, [], ◌∷◌, length, take, drop, slice_index, Option, Some, None, option_and_then, option_map}
 use Rattle.std.specs.Char.{digit_value, is_ascii_digit, is_digit}
-use Rattle.std.specs.List.{list_all}
+use Rattle.std.specs.List.{list_all, prefix_len}
 use Rattle.std.specs.Str.{bytes_eq}
 use Rattle.cap_survey.specs.declared.number.Number.{Number}
 
@@ -11,8 +11,7 @@ after_text name text = if bytes_eq (take (length name) text) name then Some (dro
 
 -- how many digits a text begins with
 abbrev pub digit_count : List ℕ → ℕ
-digit_count [] = 0
-digit_count (c ∷ cs) = if is_ascii_digit c then digit_count cs + 1 else 0
+digit_count = prefix_len is_ascii_digit
 
 -- a number with one more decimal digit at its end, if it stays below 10 ^ 18
 abbrev pub with_digit : ℕ → ℕ → Option ℕ

@@ -1,6 +1,6 @@
 -- The totals over blocks.
-use Rattle.std.specs.Prelude.{ℕ, ◌+◌, ◌==◌, nat_lt, max, Bool, if◌then◌else◌, List, [], ◌∷◌, length, sum_by, count_by}
-use Rattle.std.specs.List.{fold}
+use Rattle.std.specs.Prelude.{ℕ, ◌==◌, not, nat_lt, max, Bool, List, length, sum_by, count_by}
+use Rattle.std.specs.List.{fold, prefix_len}
 use Rattle.cap_survey.specs.declared.cell.Cell.{Cell}
 use Rattle.cap_survey.specs.declared.totals.Totals.{Totals}
 
@@ -23,8 +23,7 @@ is_over cell = nat_lt 280 cell.sum8
 
 -- how many blocks come before the first that passes a test
 abbrev pub before_first : (Cell → Bool) → List Cell → ℕ
-before_first passes [] = 0
-before_first passes (cell ∷ cells) = if passes cell then 0 else before_first passes cells + 1
+before_first passes = prefix_len (λ cell. not (passes cell))
 
 -- the greatest count of several blocks, and 0 of none
 abbrev pub greatest_of : (Cell → ℕ) → List Cell → ℕ

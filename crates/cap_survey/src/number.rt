@@ -47,14 +47,7 @@ fn count_digits(text: &[u8]) -> usize
     ensures count { result ≡ digit_count text.now }
     ensures bound { result ≤ length text.now }
 {
-    let mut count = 0;
-    for byte in text {
-        if !byte.is_ascii_digit() {
-            return count;
-        }
-        count += 1;
-    }
-    count
+    text.iter().take_while(|byte| byte.is_ascii_digit()).count()
 }
 
 // The number that decimal digits write, if it is below 10^18.

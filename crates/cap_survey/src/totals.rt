@@ -89,11 +89,7 @@ fn sum_failed(cells: &[Cell]) -> u64
     requires { length cells.now ≤ 2097152 }
     ensures { result ≡ sum_by failed_in_cell cells.now }
 {
-    let mut sum = 0;
-    for cell in cells {
-        sum += widened(cell.failed);
-    }
-    sum
+    cells.iter().map(|cell| u64::from(cell.failed)).sum()
 }
 
 // A count of rows in 64 bits. By itself, so that its clause gives the bound that a sum needs.
@@ -109,61 +105,34 @@ pub fn count_refused(cells: &[Cell]) -> u64
     ensures count { result ≡ count_by refused_of cells.now }
     ensures bound { result ≤ length cells.now }
 {
-    let mut count = 0;
-    for cell in cells {
-        if cell.refused {
-            count += 1;
-        }
-    }
-    count
+    cells.iter().filter(|cell| cell.refused).count() as u64
 }
 
 // How many of some blocks have a `sum8` above the limit.
 fn count_over(cells: &[Cell]) -> u64
     ensures { result ≡ count_by is_over cells.now }
 {
-    let mut count = 0;
-    for cell in cells {
-        // ECMA-267 allows 280.
-        if cell.sum8 > 280 {
-            count += 1;
-        }
-    }
-    count
+    // ECMA-267 allows 280.
+    cells.iter().filter(|cell| cell.sum8 > 280).count() as u64
 }
 
 /// The greatest `sum8` of some blocks, and 0 of none.
 pub fn greatest_sum8(cells: &[Cell]) -> u16
     ensures { result ≡ greatest_of sum8_of cells.now }
 {
-    let mut greatest = 0;
-    for cell in cells {
-        greatest = cell.sum8.max(greatest);
-    }
-    greatest
+    cells.iter().fold(0, |most, cell| cell.sum8.max(most))
 }
 
 /// The greatest number of failed rows of some blocks, and 0 of none.
 pub fn greatest_failed(cells: &[Cell]) -> u8
     ensures { result ≡ greatest_of failed_in_cell cells.now }
 {
-    let mut greatest = 0;
-    for cell in cells {
-        greatest = cell.failed.max(greatest);
-    }
-    greatest
+    cells.iter().fold(0, |most, cell| cell.failed.max(most))
 }
 
 // The first of some blocks that has this `sum8`; their number where none has. Of no blocks the peak is 0, at 0.
 fn first_with(cells: &[Cell], sum8: u16) -> u64
     ensures { result ≡ before_first (λ cell. sum8_of cell == sum8) cells.now }
 {
-    let mut place = 0;
-    for cell in cells {
-        if cell.sum8 == sum8 {
-            return place;
-        }
-        place += 1;
-    }
-    place
+    cells.iter().take_while(|cell| cell.sum8 != sum8).count() as u64
 }
