@@ -1,33 +1,18 @@
 //! The clap command of each command. Values are texts to clap, and the module of their command reads them by their
-//! forms. An app in the clauses is what a command of clap is by definition, and rows are the options that clap finds,
-//! with their values.
-ghost use Rattle.std.specs.Prelude.{◌≡◌, None, Some, IfOk, map, string_bytes};
-ghost use Rattle.clap.specs.Words.{app_of, found_of, rows_of, with_rule};
+//! forms.
+ghost use Rattle.std.specs.Prelude.{◌≡◌, true, IfOk, map};
+ghost use Rattle.clap.specs.Words.{app_of, is_simple_and_free, with_rule};
 ghost use Rattle.cap_words.specs.Apps.{app_for, bare_app, file_rule, flag_rule, with_options};
-ghost use Rattle.cap_words.specs.Reading.{rows_for};
 
 use crate::settings::Command;
-use clap::{Arg, ArgAction, ArgMatches};
-use dvd_words::{WordsFault, parse_by, with_option};
+use clap::{Arg, ArgAction};
+use dvd_words::with_option;
 use std::alloc::{AllocError, Global};
 
-/// The options and the files in the arguments of a command, with their values.
-pub fn parse<'a>(
-    alloc: Global,
-    command: Command,
-    words: &'a [String],
-) -> Result<ArgMatches<'a>, WordsFault>
-    ensures taken { IfOk result (λ matches. rows_for command (map string_bytes words.now) ≡ Some (rows_of (found_of matches))) }
-    ensures refused { result ≡ Err WordsFault.Usage → rows_for command (map string_bytes words.now) ≡ None }
-{
-    parse_by(parser_for(alloc, command)?, words)
-}
-
-// Each command has its own parser, so that an option of another one is refused. `true` is an option that has to be
-// given; the modules of the commands have the defaults of others. Only memory can fail here; `?` in `parse` makes
-// `WordsFault::NoMemory` of it.
-fn parser_for<'a>(alloc: Global, command: Command) -> Result<clap::Command<'a>, AllocError>
-    ensures { IfOk result (λ parser. app_of parser ≡ app_for command) }
+/// The clap command of a command. Each has its own, so that an option of another one is refused.
+pub fn parser_for<'a>(alloc: Global, command: Command) -> Result<clap::Command<'a>, AllocError>
+    ensures app { IfOk result (λ parser. app_of parser ≡ app_for command) }
+    ensures free { is_simple_and_free (app_for command) ≡ true }
 {
     match command {
         Command::Mark => {

@@ -9,10 +9,10 @@ use crate::draw::draw_settings;
 use crate::interleave::interleave_settings;
 use crate::lost::lost_settings;
 use crate::mark::mark_settings;
-use crate::parser::parse;
+use crate::parser::parser_for;
 use crate::settings::{Command, Settings};
 use clap::ArgMatches;
-use dvd_words::WordsFault;
+use dvd_words::{WordsFault, parse_by};
 use std::alloc::Global;
 
 /// The settings that the arguments ask for. `NoMemory` comes only where there is no memory to read them with. The
@@ -23,14 +23,10 @@ pub fn read<'a>(alloc: Global, words: &'a [String]) -> Result<Settings<'a>, Word
     ensures usage { result ≡ Err WordsFault.Usage → reading (map string_bytes words.now) ≡ None }
     ensures valid { IfOk result AreValid }
 {
-    let Some(word) = words.first() else {
-        return Err(WordsFault::Usage);
-    };
-    let Some(command) = command_named(word.as_str()) else {
-        return Err(WordsFault::Usage);
-    };
+    let word = words.first().ok_or(WordsFault::Usage)?;
+    let command = command_named(word.as_str()).ok_or(WordsFault::Usage)?;
     // The word of the command is handed on too: clap passes over it, as over a program's name.
-    let matches = parse(alloc, command, words)?;
+    let matches = parse_by(parser_for(alloc, command)?, words)?;
     settings(command, &matches).ok_or(WordsFault::Usage)
 }
 

@@ -1,2 +1,0 @@
--- Why the contracts hold: what clap makes of the words of a command.
-pub mod Parsed
