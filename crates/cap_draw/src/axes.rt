@@ -145,14 +145,7 @@ fn first_on_layer_1(cells: &[Cell]) -> u32
     ensures first { result ≡ before_first is_on_layer_1 cells.now }
     ensures within { result ≤ length cells.now }
 {
-    let mut place = 0;
-    for cell in cells {
-        if cell.layer == 1 {
-            return place;
-        }
-        place += 1;
-    }
-    place
+    cells.iter().take_while(|cell| cell.layer != 1).count() as u32
 }
 
 // The ticks of the axis: at most six. At the ends of five parts, or at each block where there are fewer. The last is at
