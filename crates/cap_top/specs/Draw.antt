@@ -1,5 +1,5 @@
 -- A run of `draw`: its drawing, its line and its status.
-use Rattle.std.specs.Prelude.{◌≡◌, ℕ, List, ◌++◌, codes, decimal}
+use Rattle.std.specs.Prelude.{ℕ, List, ◌++◌, codes, decimal}
 use Rattle.cap_draw.specs.Drawn.{HasDrawn}
 use Rattle.cap_draw.specs.declared.drawing.DrawEnd.{DrawEnd}
 use Rattle.cap_draw.specs.declared.drawing.DrawEnd.TheVariants.{Done, NoMemory, ReadFault, Rule, Short, WriteFault}

@@ -1,5 +1,5 @@
 -- What a run of `interleave` does, for the bytes of its captures and for faults of its streams.
-use Rattle.std.specs.Prelude.{◌≡◌, ◌⊎◌, ◌+◌, ℕ, List, ◌++◌, codes, decimal, length}
+use Rattle.std.specs.Prelude.{◌⊎◌, ◌+◌, ℕ, List, ◌++◌, codes, decimal, length}
 use Rattle.cap_interleave.specs.Blocks.{Task}
 use Rattle.cap_interleave.specs.Interleaved.{IsInterleaved}
 use Rattle.cap_interleave.specs.declared.ends.InterleaveEnd.{InterleaveEnd}

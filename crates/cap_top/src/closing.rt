@@ -9,13 +9,19 @@ use cap_words::WordsFault;
 use dvd_ports::{Sink, WriteFault, write_whole};
 use dvd_report::Line;
 
-/// Writes the closing line, and answers the status of the run, or `ReportFault` where the line can't be written, of
-/// which a prefix may have come out.
-pub fn end_with<E: Sink>(status: Status, line: &[u8], report: &mut E) -> Status
-    ensures { EndsWith status line.now (E.seen report.old) (E.seen report.new) result }
+/// How a run ends: its status, and the line that closes its report.
+#[derive(Drop)]
+pub struct RunEnd {
+    pub status: Status,
+    pub line: Line,
+}
+
+/// Writes the closing line, and answers the status of the run, or `ReportFault` where the line can't be written.
+pub fn end_with<E: Sink>(end: RunEnd, report: &mut E) -> Status
+    ensures { EndsWith end.status end.line (E.seen report.old) (E.seen report.new) result }
 {
-    match write_whole(report, line) {
-        Ok(()) => status,
+    match write_whole(report, end.line.as_slice()) {
+        Ok(()) => end.status,
         Err(WriteFault) => Status::ReportFault,
     }
 }
@@ -25,32 +31,36 @@ pub fn refuse_words<E: Sink>(fault: WordsFault, report: &mut E) -> Status
     ensures { EndsWith (words_status fault) (words_line fault) (E.seen report.old) (E.seen report.new) result }
 {
     match fault {
-        WordsFault::Usage => end_with(Status::Usage, b"usage\n", report),
-        WordsFault::NoMemory => end_with(Status::NoMemory, b"no memory\n", report),
+        WordsFault::Usage => end_with(fixed_end(Status::Usage, b"usage\n"), report),
+        WordsFault::NoMemory => end_with(fixed_end(Status::NoMemory, b"no memory\n"), report),
     }
 }
 
-/// A line of fixed text.
-pub fn fixed_line(text: &[u8]) -> Line
+/// An end whose line is a fixed text.
+pub fn fixed_end(status: Status, text: &[u8]) -> RunEnd
     requires { length text.now ≤ 20 }
-    ensures { result ≡ text.now }
+    ensures status { result.status ≡ status }
+    ensures line { result.line ≡ text.now }
 {
     let mut line = Line::new();
     line.put(text);
-    line
+    RunEnd { status, line }
 }
 
-/// The line of an input, a line of which breaks a rule: `front` names the input, as `map: line `. No line feed is in
-/// the texts that it gets.
-pub fn rule_line(front: &[u8], number: u64, cause: &[u8]) -> Line
+/// The end of a run with an input, a line of which breaks a rule.
+pub fn rule_end(front: &[u8], number: u64, cause: &[u8]) -> RunEnd
     requires front { length front.now ≤ 20 }
     requires cause { length cause.now ≤ 20 }
-    ensures { result ≡ rule_line front.now number cause.now }
+    ensures status { result.status ≡ Status.BadInput }
+    ensures line { result.line ≡ rule_line front.now number cause.now }
 {
     let mut line = Line::new();
     line.put_named(front, number);
     line.put(b": ");
     line.put(cause);
     line.put(b"\n");
-    line
+    RunEnd {
+        status: Status::BadInput,
+        line,
+    }
 }

@@ -1,16 +1,16 @@
 //! A run of `draw`: a survey in, its picture out. The end of `draw` says all, so that only its status and its line are
 //! made here. cap_main calls it with the real streams.
 ghost use Rattle.std.specs.Prelude.{◌≡◌, ◌≤◌};
-ghost use Rattle.cap_top.specs.Draw.{Runs, draw_status};
+ghost use Rattle.cap_top.specs.Draw.{Runs};
 
 mod lines; // the lines of its report
 
 use crate::closing::end_with;
 use crate::status::Status;
-use cap_draw::{DrawEnd, draw};
+use cap_draw::draw;
 use cap_words::DrawSettings;
 use dvd_ports::{Sink, Source};
-use lines::draw_line;
+use lines::draw_end;
 use std::alloc::Global;
 
 /// Reads a survey from `src` to its end, and writes its picture to `out`. The report gets one line, which says how the
@@ -31,19 +31,5 @@ pub fn run_draw<S: Source, K: Sink, E: Sink>(
 {
     // A width of at most 4,000 fits 16 bits.
     let end = draw(alloc, settings.width as u16, src, out);
-    end_with(draw_status(end), draw_line(end).as_slice(), report)
-}
-
-// A survey that is cut has a status of its own, though its picture is written whole.
-fn draw_status(end: DrawEnd) -> Status
-    ensures { result ≡ draw_status end }
-{
-    match end {
-        DrawEnd::Done => Status::Done,
-        DrawEnd::Short { .. } => Status::Short,
-        DrawEnd::ReadFault => Status::ReadFault,
-        DrawEnd::WriteFault => Status::WriteFault,
-        DrawEnd::Rule(_) => Status::BadInput,
-        DrawEnd::NoMemory => Status::NoMemory,
-    }
+    end_with(draw_end(end), report)
 }

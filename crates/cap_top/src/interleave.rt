@@ -1,17 +1,17 @@
 //! A run of `interleave`: several captures in, their blocks in turn out. cap_main opens the captures and calls it. It
 //! is `IsValid` that the form has blocks of one size, and that only the marked form is filled.
 ghost use Rattle.std.specs.Prelude.{◌≡◌, ◌≤◌, length};
-ghost use Rattle.cap_top.specs.Interleave.{Headline, status_of};
+ghost use Rattle.cap_top.specs.Interleave.{Headline};
 ghost use Rattle.cap_words.specs.Interleave.{IsValid};
 
 mod lines; // the lines of its report
 
-use crate::closing::end_with;
+use crate::closing::{end_with, fixed_end};
 use crate::status::Status;
-use cap_interleave::{Buffers, InterleaveEnd, interleave_loop};
+use cap_interleave::{Buffers, interleave_loop};
 use cap_words::InterleaveSettings;
 use dvd_ports::{NoMemory, Sink, Source};
-use lines::closing_line;
+use lines::interleave_end;
 use std::alloc::Global;
 
 /// Writes the blocks of captures in turn to `out`. The report gets one line, which says how the run ended. Memory is
@@ -35,21 +35,8 @@ pub fn run_interleave<S: Source, K: Sink, E: Sink>(
     match Buffers::new(alloc, settings.form, settings.fill, captures.len()) {
         Ok(mut buffers) => {
             let end = interleave_loop(&mut buffers, captures, out);
-            end_with(status_of(end), closing_line(end).as_slice(), report)
+            end_with(interleave_end(end), report)
         }
-        Err(NoMemory) => end_with(Status::NoMemory, b"no memory\n", report),
-    }
-}
-
-// The status has no number of a file or a block: the line names these.
-fn status_of(end: InterleaveEnd) -> Status
-    ensures { result ≡ status_of end }
-{
-    match end {
-        InterleaveEnd::Done => Status::Done,
-        InterleaveEnd::ReadFault { .. } => Status::ReadFault,
-        InterleaveEnd::WriteFault => Status::WriteFault,
-        InterleaveEnd::Short { .. } => Status::Short,
-        InterleaveEnd::Long => Status::Long,
+        Err(NoMemory) => end_with(fixed_end(Status::NoMemory, b"no memory\n"), report),
     }
 }

@@ -1,20 +1,18 @@
 //! A run of `lost`: a report of `dvdecc` in, a map of the image out. Two reports are spoken of: the one that is read,
 //! and that of this run, `report`. cap_main calls it with the real streams.
 ghost use Rattle.std.specs.Prelude.{◌≡◌};
-ghost use Rattle.cap_top.specs.Closing.{EndsWith};
-ghost use Rattle.cap_top.specs.Lost.{Headline, HasRunByLayout, line_by, refusal_status, status_by};
+ghost use Rattle.cap_top.specs.Lost.{Headline, HasRunByLayout};
 ghost use Rattle.dvd_loop.specs.Streams.{streams};
 
 mod lines; // the lines of its report
 
 use crate::closing::end_with;
 use crate::status::Status;
-use cap_lost::{ReportFault, read_report, write_map};
+use cap_lost::{read_report, write_map};
 use cap_words::LostSettings;
 use dvd_layout::{Layout, Zones};
-use dvd_ports::{Sink, Source, WriteFault};
-use dvd_report::setting_line;
-use lines::refusal_line;
+use dvd_ports::{Sink, Source};
+use lines::{map_end, refusal_end, setting_end};
 use std::alloc::Global;
 
 /// Reads the report of a run of `dvdecc` from `src`, line by line, and then writes the map of its image to `out`. The
@@ -35,7 +33,7 @@ pub fn run_lost<S: Source, K: Sink, E: Sink>(
 {
     match settings.layout() {
         Ok(layout) => map_image(alloc, layout, settings.zones, src, out, report),
-        Err(fault) => end_with(Status::BadInput, setting_line(fault).as_slice(), report),
+        Err(fault) => end_with(setting_end(fault), report),
     }
 }
 
@@ -55,32 +53,7 @@ fn map_image<S: Source, K: Sink, E: Sink>(
 {
     // The whole report first: how much was written is in its last line.
     match read_report(alloc, layout, zones, src) {
-        Ok(lost) => end_map(write_map(&lost, layout.total(), out), report),
-        Err(fault) => end_with(
-            refusal_status(fault),
-            refusal_line(fault).as_slice(),
-            report,
-        ),
-    }
-}
-
-// Says whether the map was written. It is whole also where the run of `dvdecc` stopped, so that this run is done.
-fn end_map<E: Sink>(answer: Result<(), WriteFault>, report: &mut E) -> Status
-    ensures { EndsWith (status_by answer) (line_by answer) (E.seen report.old) (E.seen report.new) result }
-{
-    match answer {
-        Ok(()) => end_with(Status::Done, b"done\n", report),
-        Err(WriteFault) => end_with(Status::WriteFault, b"write fault\n", report),
-    }
-}
-
-// Why the report isn't read, as a status. Nothing was written.
-fn refusal_status(fault: ReportFault) -> Status
-    ensures { result ≡ refusal_status fault }
-{
-    match fault {
-        ReportFault::NoMemory => Status::NoMemory,
-        ReportFault::ReadFault => Status::ReadFault,
-        ReportFault::Rule { .. } => Status::BadInput,
+        Ok(lost) => end_with(map_end(write_map(&lost, layout.total(), out)), report),
+        Err(fault) => end_with(refusal_end(fault), report),
     }
 }

@@ -2,7 +2,7 @@
 //! it. The name of the map in the settings isn't used here.
 ghost use Rattle.std.specs.Prelude.{◌≡◌};
 ghost use Rattle.cap_top.specs.Mark.{Headline};
-ghost use Rattle.cap_top.specs.Mark.Statuses.{refusal_status, status_of};
+ghost use Rattle.cap_top.specs.Mark.Statuses.{status_of};
 ghost use Rattle.dvd_loop.specs.Streams.{streams};
 
 mod lines; // the lines of its report
@@ -14,8 +14,8 @@ use cap_mark::mark_loop;
 use cap_words::MarkSettings;
 use dvd_loop::{LoopEnd, close};
 use dvd_ports::{Sink, Source};
-use lines::{closing_line, refusal_line};
-use opening::{MapRefusal, open_map};
+use lines::{closing_line, refusal_end};
+use opening::open_map;
 use std::alloc::Global;
 
 /// Reads the map whole, then the capture from `src`, and writes it to `out` in the marked form. The report gets one
@@ -39,11 +39,7 @@ pub fn run_mark<M: Source, S: Source, K: Sink, E: Sink>(
             // `close` writes the line as `end_with` does; its clauses go on from those of the loop.
             status_of(close(end, closing_line(end).as_slice(), report))
         }
-        Err(refusal) => end_with(
-            refusal_status(refusal),
-            refusal_line(refusal).as_slice(),
-            report,
-        ),
+        Err(refusal) => end_with(refusal_end(refusal), report),
     }
 }
 
@@ -59,16 +55,5 @@ fn status_of(end: LoopEnd) -> Status
         LoopEnd::Short { .. } => Status::Short,
         LoopEnd::Long => Status::Long,
         _ => Status::ReportFault,
-    }
-}
-
-// Why the run doesn't begin, as a status. Nothing was read of the capture.
-fn refusal_status(refusal: MapRefusal) -> Status
-    ensures { result ≡ refusal_status refusal }
-{
-    match refusal {
-        MapRefusal::NoMemory => Status::NoMemory,
-        MapRefusal::ReadFault => Status::ReadFault,
-        MapRefusal::Rule { .. } => Status::BadInput,
     }
 }

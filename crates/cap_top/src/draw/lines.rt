@@ -2,35 +2,40 @@
 //! has room for 256 bytes; `short` and the bounds of `fixed_line` and `rule_line` keep within it.
 ghost use Rattle.std.specs.Prelude.{◌≡◌, ◌≤◌, length};
 ghost use Rattle.cap_draw.specs.declared.drawing.DrawEnd.TheVariants.{Short};
-ghost use Rattle.cap_top.specs.Draw.{draw_line, rule_text};
+ghost use Rattle.cap_top.specs.Draw.{draw_line, draw_status, rule_text};
 
-use crate::closing::{fixed_line, rule_line};
+use crate::closing::{RunEnd, fixed_end, rule_end};
+use crate::status::Status;
 use cap_draw::{DrawEnd, SurveyCause};
 use dvd_report::Line;
 
-/// The line that closes the report.
-pub fn draw_line(end: DrawEnd) -> Line
-    ensures { result ≡ draw_line end }
+/// The status of a run, and the line that closes its report.
+pub fn draw_end(end: DrawEnd) -> RunEnd
+    ensures status { result.status ≡ draw_status end }
+    ensures line { result.line ≡ draw_line end }
 {
     match end {
-        DrawEnd::Done => fixed_line(b"done\n"),
-        DrawEnd::Short { line, bytes } => short_line(line, bytes),
-        DrawEnd::ReadFault => fixed_line(b"read fault\n"),
-        DrawEnd::WriteFault => fixed_line(b"write fault\n"),
-        DrawEnd::Rule(fault) => rule_line(b"survey: line ", fault.line, rule_text(fault.cause)),
-        DrawEnd::NoMemory => fixed_line(b"no memory\n"),
+        DrawEnd::Done => fixed_end(Status::Done, b"done\n"),
+        DrawEnd::Short { line, bytes } => short_end(line, bytes),
+        DrawEnd::ReadFault => fixed_end(Status::ReadFault, b"read fault\n"),
+        DrawEnd::WriteFault => fixed_end(Status::WriteFault, b"write fault\n"),
+        DrawEnd::Rule(fault) => rule_end(b"survey: line ", fault.line, rule_text(fault.cause)),
+        DrawEnd::NoMemory => fixed_end(Status::NoMemory, b"no memory\n"),
     }
 }
 
-// The line of a survey that is cut: in which line, and how many bytes of that came.
-fn short_line(number: u64, bytes: u64) -> Line
-    ensures { result ≡ draw_line (Short number bytes) }
+fn short_end(number: u64, bytes: u64) -> RunEnd
+    ensures status { result.status ≡ Status.Short }
+    ensures line { result.line ≡ draw_line (Short number bytes) }
 {
     let mut line = Line::new();
     line.put_named(b"short: line ", number);
     line.put_named(b", ", bytes);
     line.put(b" bytes\n");
-    line
+    RunEnd {
+        status: Status::Short,
+        line,
+    }
 }
 
 // The word of a rule. These are texts of this report; the names of `SurveyCause` may be longer.

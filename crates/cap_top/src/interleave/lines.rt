@@ -1,23 +1,27 @@
-//! The line that closes the report of `interleave`.
+//! How a run of `interleave` ends.
 ghost use Rattle.std.specs.Prelude.{◌≡◌};
-ghost use Rattle.cap_top.specs.Interleave.{closing_line};
+ghost use Rattle.cap_top.specs.Interleave.{closing_line, status_of};
 
+use crate::closing::{RunEnd, fixed_end};
+use crate::status::Status;
 use cap_interleave::InterleaveEnd;
 use dvd_report::Line;
 
-/// The closing line. The files are counted from 1 there, as they are in the arguments; blocks are counted from 0. The
-/// sum has 64 bits, so that it can't overflow.
-pub fn closing_line(end: InterleaveEnd) -> Line
-    ensures { result ≡ closing_line end }
+/// The status of a run, and the line that closes its report. The files are counted from 1 there, as they are in the
+/// arguments.
+pub fn interleave_end(end: InterleaveEnd) -> RunEnd
+    ensures status { result.status ≡ status_of end }
+    ensures line { result.line ≡ closing_line end }
 {
     let mut line = Line::new();
-    match end {
-        InterleaveEnd::Done => line.put(b"done\n"),
+    let status = match end {
+        InterleaveEnd::Done => return fixed_end(Status::Done, b"done\n"),
         InterleaveEnd::ReadFault { capture } => {
             line.put_named(b"file ", u64::from(capture) + 1);
             line.put(b": read fault\n");
+            Status::ReadFault
         }
-        InterleaveEnd::WriteFault => line.put(b"write fault\n"),
+        InterleaveEnd::WriteFault => return fixed_end(Status::WriteFault, b"write fault\n"),
         InterleaveEnd::Short {
             capture,
             block,
@@ -27,8 +31,9 @@ pub fn closing_line(end: InterleaveEnd) -> Line
             line.put_named(b", block ", u64::from(block));
             line.put_named(b", ", u64::from(bytes));
             line.put(b" bytes\n");
+            Status::Short
         }
-        InterleaveEnd::Long => line.put(b"long\n"),
-    }
-    line
+        InterleaveEnd::Long => return fixed_end(Status::Long, b"long\n"),
+    };
+    RunEnd { status, line }
 }

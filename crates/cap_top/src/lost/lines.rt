@@ -1,20 +1,48 @@
 //! The lines of the report of `lost`, one of which closes each run. Those that say that a map was written are in
 //! `lost`.
 ghost use Rattle.std.specs.Prelude.{◌≡◌, ◌≤◌, length};
+ghost use Rattle.cap_top.specs.Lost.{line_by, refusal_status, status_by};
 ghost use Rattle.cap_top.specs.Lost.Lines.{cause_text, refusal_line};
+ghost use Rattle.dvd_report.specs.Setting.{setting_line};
 
-use crate::closing::{fixed_line, rule_line};
+use crate::closing::{RunEnd, fixed_end, rule_end};
+use crate::status::Status;
 use cap_lost::{ReportCause, ReportFault};
-use dvd_report::Line;
+use dvd_layout::LayoutFault;
+use dvd_ports::WriteFault;
+use dvd_report::setting_line;
 
-/// The line of a run whose report isn't read.
-pub fn refusal_line(fault: ReportFault) -> Line
-    ensures { result ≡ refusal_line fault }
+/// The end of a run whose settings give no layout.
+pub fn setting_end(fault: LayoutFault) -> RunEnd
+    ensures status { result.status ≡ Status.BadInput }
+    ensures line { result.line ≡ setting_line fault }
+{
+    RunEnd {
+        status: Status::BadInput,
+        line: setting_line(fault),
+    }
+}
+
+/// The end of a run that has read the report, by whether the map was written.
+pub fn map_end(answer: Result<(), WriteFault>) -> RunEnd
+    ensures status { result.status ≡ status_by answer }
+    ensures line { result.line ≡ line_by answer }
+{
+    match answer {
+        Ok(()) => fixed_end(Status::Done, b"done\n"),
+        Err(WriteFault) => fixed_end(Status::WriteFault, b"write fault\n"),
+    }
+}
+
+/// The end of a run whose report isn't read.
+pub fn refusal_end(fault: ReportFault) -> RunEnd
+    ensures status { result.status ≡ refusal_status fault }
+    ensures line { result.line ≡ refusal_line fault }
 {
     match fault {
-        ReportFault::NoMemory => fixed_line(b"no memory\n"),
-        ReportFault::ReadFault => fixed_line(b"read fault\n"),
-        ReportFault::Rule { line, cause } => rule_line(b"report: line ", line, text_of(cause)),
+        ReportFault::NoMemory => fixed_end(Status::NoMemory, b"no memory\n"),
+        ReportFault::ReadFault => fixed_end(Status::ReadFault, b"read fault\n"),
+        ReportFault::Rule { line, cause } => rule_end(b"report: line ", line, text_of(cause)),
     }
 }
 

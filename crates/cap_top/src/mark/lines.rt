@@ -1,9 +1,11 @@
 //! The lines of the report of `mark`, one of which closes each run.
 ghost use Rattle.std.specs.Prelude.{◌≡◌, ◌≤◌, length};
 ghost use Rattle.cap_top.specs.Mark.Lines.{cause_text, closing_line, refusal_line};
+ghost use Rattle.cap_top.specs.Mark.Statuses.{refusal_status};
 
 use super::opening::MapRefusal;
-use crate::closing::{fixed_line, rule_line};
+use crate::closing::{RunEnd, fixed_end, rule_end};
+use crate::status::Status;
 use cap_map::MapCause;
 use dvd_loop::LoopEnd;
 use dvd_report::Line;
@@ -31,14 +33,15 @@ pub fn closing_line(end: LoopEnd) -> Line
     line
 }
 
-/// The line of a run that doesn't begin.
-pub fn refusal_line(refusal: MapRefusal) -> Line
-    ensures { result ≡ refusal_line refusal }
+/// The end of a run that doesn't begin.
+pub fn refusal_end(refusal: MapRefusal) -> RunEnd
+    ensures status { result.status ≡ refusal_status refusal }
+    ensures line { result.line ≡ refusal_line refusal }
 {
     match refusal {
-        MapRefusal::NoMemory => fixed_line(b"no memory\n"),
-        MapRefusal::ReadFault => fixed_line(b"map: read fault\n"),
-        MapRefusal::Rule { line, cause } => rule_line(b"map: line ", line, text_of(cause)),
+        MapRefusal::NoMemory => fixed_end(Status::NoMemory, b"no memory\n"),
+        MapRefusal::ReadFault => fixed_end(Status::ReadFault, b"map: read fault\n"),
+        MapRefusal::Rule { line, cause } => rule_end(b"map: line ", line, text_of(cause)),
     }
 }
 
