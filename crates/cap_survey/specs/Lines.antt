@@ -4,6 +4,11 @@ use Rattle.cap_survey.specs.Numbers.{NumberAt, after_text, are_hexadecimal, numb
 use Rattle.cap_survey.specs.declared.block.BlockLine.{BlockLine}
 use Rattle.cap_survey.specs.declared.totals.Totals.{Totals}
 
+-- what follows from a value, where there is one
+infixl 10 ◌>>=◌
+abbrev pub ◌>>=◌ : {A B : Type 0} → Option A → (A → Option B) → Option B
+o >>= f = option_and_then f o
+
 -- there is a text, and nothing in it
 abbrev pub is_empty_text : Option (List ℕ) → Bool
 is_empty_text None = false
@@ -54,53 +59,40 @@ after_sector text = option_and_then after_six (after_text (codes " sector ") tex
 
 -- The line of a block, `block K sector H6 layer L pi P failed F sum8 S: ANSWER`, where ANSWER is `whole` or a cause.
 abbrev pub block_line : List ℕ → Option BlockLine
-block_line line =
-    option_and_then (λ block.
-    option_and_then (λ place.
-    option_and_then (λ layer.
-    option_and_then (λ pi.
-    option_and_then (λ failed.
-    option_and_then (λ sum8.
-    option_and_then (λ answer.
-    option_and_then (λ refused. Some (record {
-      block = block.value;
-      layer = layer.value;
-      pi = pi.value;
-      failed = failed.value;
-      sum8 = sum8.value;
-      refused = refused;
-    }))
-    (refused_by answer))
-    (after_text (codes ": ") sum8.rest))
-    (number_after (codes " sum8 ") failed.rest))
-    (number_after (codes " failed ") pi.rest))
-    (number_after (codes " pi ") layer.rest))
-    (number_after (codes " layer ") place))
-    (after_sector block.rest))
-    (number_after (codes "block ") line)
+block_line line = do
+  block ← number_after (codes "block ") line
+  place ← after_sector block.rest
+  layer ← number_after (codes " layer ") place
+  pi ← number_after (codes " pi ") layer.rest
+  failed ← number_after (codes " failed ") pi.rest
+  sum8 ← number_after (codes " sum8 ") failed.rest
+  answer ← after_text (codes ": ") sum8.rest
+  refused ← refused_by answer
+  Some (record {
+    block = block.value;
+    layer = layer.value;
+    pi = pi.value;
+    failed = failed.value;
+    sum8 = sum8.value;
+    refused = refused;
+  })
 
 -- The line of totals, `blocks B pi P failed F damaged D peak S at K over O`.
 abbrev pub totals_in : List ℕ → Option Totals
-totals_in line =
-    option_and_then (λ blocks.
-    option_and_then (λ pi.
-    option_and_then (λ failed.
-    option_and_then (λ damaged.
-    option_and_then (λ peak.
-    option_and_then (λ at.
-    option_and_then (λ over. if length over.rest == 0 then Some (record {
-      blocks = blocks.value;
-      pi = pi.value;
-      failed = failed.value;
-      damaged = damaged.value;
-      peak = peak.value;
-      peak_at = at.value;
-      over = over.value;
-    }) else None)
-    (number_after (codes " over ") at.rest))
-    (number_after (codes " at ") peak.rest))
-    (number_after (codes " peak ") damaged.rest))
-    (number_after (codes " damaged ") failed.rest))
-    (number_after (codes " failed ") pi.rest))
-    (number_after (codes " pi ") blocks.rest))
-    (number_after (codes "blocks ") line)
+totals_in line = do
+  blocks ← number_after (codes "blocks ") line
+  pi ← number_after (codes " pi ") blocks.rest
+  failed ← number_after (codes " failed ") pi.rest
+  damaged ← number_after (codes " damaged ") failed.rest
+  peak ← number_after (codes " peak ") damaged.rest
+  at ← number_after (codes " at ") peak.rest
+  over ← number_after (codes " over ") at.rest
+  if length over.rest == 0 then Some (record {
+    blocks = blocks.value;
+    pi = pi.value;
+    failed = failed.value;
+    damaged = damaged.value;
+    peak = peak.value;
+    peak_at = at.value;
+    over = over.value;
+  }) else None
