@@ -16,7 +16,8 @@ pub struct RunEnd {
     pub line: Line,
 }
 
-/// Writes the closing line, and answers the status of the run, or `ReportFault` where the line can't be written.
+/// Writes the closing line, and answers the status of the run, or `ReportFault` where the line can't be written, of
+/// which a prefix may have come out.
 pub fn end_with<E: Sink>(end: RunEnd, report: &mut E) -> Status
     ensures { EndsWith end.status end.line (E.seen report.old) (E.seen report.new) result }
 {
@@ -47,7 +48,8 @@ pub fn fixed_end(status: Status, text: &[u8]) -> RunEnd
     RunEnd { status, line }
 }
 
-/// The end of a run with an input, a line of which breaks a rule.
+/// The end of a run with an input, a line of which breaks a rule: `front` names the input, as `map: line `. No line feed
+/// is in the texts that it gets.
 pub fn rule_end(front: &[u8], number: u64, cause: &[u8]) -> RunEnd
     requires front { length front.now ≤ 20 }
     requires cause { length cause.now ≤ 20 }

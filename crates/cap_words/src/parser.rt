@@ -1,5 +1,5 @@
 //! The clap command of each command. Values are texts to clap, and the module of their command reads them by their
-//! forms.
+//! forms. An app in the clauses is what a command of clap is by definition.
 ghost use Rattle.std.specs.Prelude.{◌≡◌, true, IfOk, map};
 ghost use Rattle.clap.specs.Words.{app_of, is_simple_and_free, with_rule};
 ghost use Rattle.cap_words.specs.Apps.{app_for, bare_app, file_rule, flag_rule, with_options};
@@ -9,7 +9,9 @@ use clap::{Arg, ArgAction};
 use dvd_words::with_option;
 use std::alloc::{AllocError, Global};
 
-/// The clap command of a command. Each has its own, so that an option of another one is refused.
+/// The clap command of a command. Each has its own, so that an option of another one is refused. `true` is an option that
+/// has to be given; the modules of the commands have the defaults of others. Only memory can fail here. `free` says that
+/// clap's rules for it are simple, which `parse_by` requires.
 pub fn parser_for<'a>(alloc: Global, command: Command) -> Result<clap::Command<'a>, AllocError>
     ensures app { IfOk result (λ parser. app_of parser ≡ app_for command) }
     ensures free { is_simple_and_free (app_for command) ≡ true }

@@ -1,5 +1,5 @@
 //! The lines of the report of `draw`. Each run has one, which closes it, and scripts may look for its text. A `Line`
-//! has room for 256 bytes; `short` and the bounds of `fixed_line` and `rule_line` keep within it.
+//! has room for 256 bytes; `short` and the bounds of `fixed_end` and `rule_end` keep within it.
 ghost use Rattle.std.specs.Prelude.{◌≡◌, ◌≤◌, length};
 ghost use Rattle.cap_draw.specs.declared.drawing.DrawEnd.TheVariants.{Short};
 ghost use Rattle.cap_top.specs.Draw.{draw_line, draw_status, rule_text};
@@ -24,6 +24,8 @@ pub fn draw_end(end: DrawEnd) -> RunEnd
     }
 }
 
+// The end of a survey that is cut: in which line, and how many bytes of that came. It has a status of its own, though the
+// picture is written whole.
 fn short_end(number: u64, bytes: u64) -> RunEnd
     ensures status { result.status ≡ Status.Short }
     ensures line { result.line ≡ draw_line (Short number bytes) }

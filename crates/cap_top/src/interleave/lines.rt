@@ -7,8 +7,9 @@ use crate::status::Status;
 use cap_interleave::InterleaveEnd;
 use dvd_report::Line;
 
-/// The status of a run, and the line that closes its report. The files are counted from 1 there, as they are in the
-/// arguments.
+/// The status of a run, which has no number of a file or a block, and the line that closes its report, which names
+/// these. The files are counted from 1 there, as they are in the arguments; blocks are counted from 0. The sum has 64
+/// bits, so that it can't overflow.
 pub fn interleave_end(end: InterleaveEnd) -> RunEnd
     ensures status { result.status ≡ status_of end }
     ensures line { result.line ≡ closing_line end }

@@ -1,4 +1,4 @@
-//! The lines of the report of `lost`, one of which closes each run. Those that say that a map was written are in
+//! The lines of the report of `lost`, one of which closes each run.
 //! `lost`.
 ghost use Rattle.std.specs.Prelude.{◌≡◌, ◌≤◌, length};
 ghost use Rattle.cap_top.specs.Lost.{line_by, refusal_status, status_by};
@@ -23,7 +23,8 @@ pub fn setting_end(fault: LayoutFault) -> RunEnd
     }
 }
 
-/// The end of a run that has read the report, by whether the map was written.
+/// The end of a run that has read the report, by whether the map was written. The map is whole also where the run of
+/// `dvdecc` stopped, so that this run is done.
 pub fn map_end(answer: Result<(), WriteFault>) -> RunEnd
     ensures status { result.status ≡ status_by answer }
     ensures line { result.line ≡ line_by answer }
@@ -34,7 +35,7 @@ pub fn map_end(answer: Result<(), WriteFault>) -> RunEnd
     }
 }
 
-/// The end of a run whose report isn't read.
+/// The end of a run whose report isn't read. Nothing was written.
 pub fn refusal_end(fault: ReportFault) -> RunEnd
     ensures status { result.status ≡ refusal_status fault }
     ensures line { result.line ≡ refusal_line fault }
@@ -46,7 +47,7 @@ pub fn refusal_end(fault: ReportFault) -> RunEnd
     }
 }
 
-// The words of a rule. `short` is what `rule_line` asks for: a `Line` has room for a bounded text. They are those that
+// The words of a rule. `short` is what `rule_end` asks for: a `Line` has room for a bounded text. They are those that
 // `ReportCause` displays, here as bytes.
 fn text_of(cause: ReportCause) -> &'static [u8]
     ensures text { result.now ≡ cause_text cause }

@@ -33,7 +33,7 @@ pub fn closing_line(end: LoopEnd) -> Line
     line
 }
 
-/// The end of a run that doesn't begin.
+/// The end of a run that doesn't begin. Nothing was read of the capture.
 pub fn refusal_end(refusal: MapRefusal) -> RunEnd
     ensures status { result.status ≡ refusal_status refusal }
     ensures line { result.line ≡ refusal_line refusal }
@@ -45,7 +45,7 @@ pub fn refusal_end(refusal: MapRefusal) -> RunEnd
     }
 }
 
-// The words of a rule. `short` is what `rule_line` asks for: a `Line` has room for a bounded text. They are those that
+// The words of a rule. `short` is what `rule_end` asks for: a `Line` has room for a bounded text. They are those that
 // `MapCause` displays, here as bytes.
 fn text_of(cause: MapCause) -> &'static [u8]
     ensures text { result.now ≡ cause_text cause }
