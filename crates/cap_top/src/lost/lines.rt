@@ -1,5 +1,4 @@
 //! The lines of the report of `lost`, one of which closes each run.
-//! `lost`.
 ghost use Rattle.std.specs.Prelude.{◌≡◌, ◌≤◌, length};
 ghost use Rattle.cap_top.specs.Lost.{line_by, refusal_status, status_by};
 ghost use Rattle.cap_top.specs.Lost.Lines.{cause_text, refusal_line};
