@@ -1,25 +1,90 @@
 -- What the laws of whole runs rest on of each command. Its own page of facts gives it.
-use Rattle.std.proofs.Common.{◌≡◌, ℕ, List, All, None}
-use Rattle.dvd_loop.specs.Machine.{Outcome}
+use Rattle.std.proofs.Common.{◌≡◌, ◌<◌, ℕ, List, All, None, length, refl}
+use Rattle.dvd_capture.specs.declared.form.Form.{Form}
+use Rattle.dvd_layout.specs.declared.layout.Layout.{Layout}
+use Rattle.dvd_layout.specs.declared.layout.Zones.{Zones}
+use Rattle.dvd_loop.specs.Machine.{IsOutcome, Outcome, Step, Units}
 use Rattle.dvd_loop.proofs.Totality.{Exists}
+use Rattle.dvd_commands.specs.Captured.{captured_part}
 use Rattle.dvd_commands.specs.CdMake.{HasAddresses}
 use Rattle.dvd_commands.specs.Commands.{meaning}
-use Rattle.dvd_commands.specs.Meaning.{GoesBy}
+use Rattle.dvd_commands.specs.Meaning.{GoesBy, Meaning, by_layout, by_settings}
 use Rattle.dvd_commands.proofs.FrameBytes.{HasBytes, IsByte}
-use Rattle.dvd_commands.proofs.OneRun.{RunsOnce}
-use Rattle.dvd_commands.proofs.OtherWorkers.{set_workers}
+use Rattle.dvd_commands.proofs.OneRun.{RunsOnce, one_capture, once_by_layout}
+use Rattle.dvd_commands.proofs.OneThing.{MayOne}
+use Rattle.dvd_commands.proofs.OtherWorkers.{layout_with, set_workers}
+use Rattle.dvd_commands.proofs.SomeRun.{captures_exist, some_by_layout}
+use Rattle.dvd_commands.proofs.SomeThing.{MaySome}
 use Rattle.dvd_words.specs.Settings.{broken_rule}
 use Rattle.dvd_words.specs.declared.table.Command.{Command}
 use Rattle.dvd_words.specs.declared.table.Command.TheVariants.{CdMake}
 use Rattle.dvd_words.specs.declared.settings.Settings.{Settings}
 
--- Its runs over the same bytes do the same; over bytes it has one, where no rule is broken and the addresses of the
--- sectors that `cdmake` makes exist; other workers change none; and lengths that are those of a layout break no rule of
--- it.
-pub record RunFacts (command : Command) : Type 0 where
-  pub once : (settings : Settings) (bytes : List ℕ) → RunsOnce (GoesBy (meaning command) settings bytes)
-  pub some : (settings : Settings) (bytes : List ℕ) → HasBytes 6 settings.cpr → All IsByte bytes → (meaning command).breaks settings ≡ None
-      → (command ≡ CdMake → HasAddresses settings) → Exists (GoesBy (meaning command) settings bytes)
-  pub alike : (workers : ℕ) (settings : Settings) (bytes : List ℕ) (outcome : Outcome) → GoesBy (meaning command) settings bytes outcome
-      → GoesBy (meaning command) (set_workers workers settings) bytes outcome
-  pub valid : (settings : Settings) → broken_rule settings ≡ None → (meaning command).breaks settings ≡ None
+-- Of a meaning: its runs over the same bytes do the same; over bytes it has one, where no rule is broken and the settings
+-- have what it needs; other workers change none; and lengths that are those of a layout break no rule of it.
+pub record MeaningFacts (m : Meaning) (Needs : Settings → Type 0) : Type 0 where
+  pub once : (settings : Settings) (bytes : List ℕ) → RunsOnce (GoesBy m settings bytes)
+  pub some : (settings : Settings) (bytes : List ℕ) → HasBytes 6 settings.cpr → All IsByte bytes → m.breaks settings ≡ None → Needs settings
+      → Exists (GoesBy m settings bytes)
+  pub alike : (workers : ℕ) (settings : Settings) (bytes : List ℕ) (outcome : Outcome) → GoesBy m settings bytes outcome
+      → GoesBy m (set_workers workers settings) bytes outcome
+  pub valid : (settings : Settings) → broken_rule settings ≡ None → m.breaks settings ≡ None
+
+-- of a command: `cdmake` alone needs something, that the addresses of the sectors that it makes exist
+abbrev pub RunFacts : Command → Type 0
+RunFacts command = MeaningFacts (meaning command) (λ settings. command ≡ CdMake → HasAddresses settings)
+
+-- Units by the settings and their layout, of which other workers change none: it is enough to know the runs over those of
+-- any layout.
+pub facts_by_layout : {Needs : Settings → Type 0} (units : Settings → Layout → Units)
+    → ((workers : ℕ) (settings : Settings) (layout : Layout) (bytes : List ℕ) (outcome : Outcome) → IsOutcome (units settings layout) bytes outcome
+    → IsOutcome (units (set_workers workers settings) layout) bytes outcome)
+    → ((settings : Settings) (layout : Layout) (bytes : List ℕ) → RunsOnce (IsOutcome (units settings layout) bytes))
+    → ((settings : Settings) (layout : Layout) (bytes : List ℕ) → HasBytes 6 settings.cpr → All IsByte bytes → Exists (IsOutcome (units settings layout) bytes))
+    → MeaningFacts (by_layout units) Needs
+facts_by_layout units alike once some = record {
+  once = λ settings bytes. once_by_layout units settings bytes (λ layout. once settings layout bytes);
+  some = λ settings bytes six are none needs. some_by_layout units settings bytes none (λ layout. some settings layout bytes six are);
+  alike = λ workers settings bytes outcome goes.
+      (goes.0, layout_with workers settings goes.0 goes.1, alike workers settings goes.0 bytes outcome goes.2);
+  valid = λ settings none. none;
+}
+
+-- Likewise units by the settings alone.
+pub facts_by_settings : {Needs : Settings → Type 0} (units : Settings → Units)
+    → ((workers : ℕ) (settings : Settings) (bytes : List ℕ) (outcome : Outcome) → IsOutcome (units settings) bytes outcome
+    → IsOutcome (units (set_workers workers settings)) bytes outcome)
+    → ((settings : Settings) (bytes : List ℕ) → RunsOnce (IsOutcome (units settings) bytes))
+    → ((settings : Settings) (bytes : List ℕ) → All IsByte bytes → Needs settings → Exists (IsOutcome (units settings) bytes))
+    → MeaningFacts (by_settings units) Needs
+facts_by_settings units alike once some = record {
+  once = λ settings bytes a b goes others. once settings bytes a b goes.2 others.2;
+  some = λ settings bytes six are none needs.
+      let (outcome, runs, faultless) = some settings bytes are needs in (outcome, (tt, tt, runs), faultless);
+  alike = λ workers settings bytes outcome goes. (tt, tt, alike workers settings bytes outcome goes.2);
+  valid = λ settings none. refl;
+}
+
+-- Captured blocks of a layout: one thing alone, and something, may be done for each and after all of them.
+pub facts_of_captured : {Needs : Settings → Type 0} (units : Layout → Zones → Form → Units)
+    → ((layout : Layout) (zones : Zones) (form : Form) (k : ℕ) (own : List ℕ) → (units layout zones form).begins k own ≡ captured_part form own)
+    → ((layout : Layout) (zones : Zones) (form : Form) (before : List (List ℕ)) (own : List ℕ)
+    → MayOne ((units layout zones form).does (length before) before own))
+    → ((layout : Layout) (zones : Zones) (form : Form) (before : List (List ℕ)) (steps others : List Step) → (units layout zones form).closes before steps
+    → (units layout zones form).closes before others → steps ≡ others)
+    → ((layout : Layout) (zones : Zones) (form : Form) (before : List (List ℕ)) (own : List ℕ) → length before < (units layout zones form).count
+    → MaySome ((units layout zones form).does (length before) before own))
+    → ((layout : Layout) (zones : Zones) (form : Form) (before : List (List ℕ)) → length before ≡ (units layout zones form).count
+    → (steps : List Step) × (units layout zones form).closes before steps)
+    → MeaningFacts (by_layout (λ settings layout. units layout settings.zones settings.form)) Needs
+facts_of_captured units begins one one_closes some some_closes =
+    facts_by_layout (λ settings layout. units layout settings.zones settings.form)
+    (λ workers settings layout bytes outcome runs. runs)
+    (λ settings layout.
+    let zones = settings.zones in
+    let form = settings.form in
+    one_capture (units layout zones form) form (begins layout zones form) (one layout zones form) (one_closes layout zones form))
+    (λ settings layout bytes six are.
+    let zones = settings.zones in
+    let form = settings.form in
+    captures_exist (units layout zones form) form (begins layout zones form) (some layout zones form) (some_closes layout zones form) bytes)

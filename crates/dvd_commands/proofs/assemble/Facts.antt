@@ -3,10 +3,9 @@ use Rattle.std.proofs.Common.{◌∙◌, [], refl, sym}
 use Rattle.dvd_assemble.specs.Frames.{frame_size}
 use Rattle.dvd_layout.specs.declared.layout.Layout.{Layout}
 use Rattle.dvd_commands.specs.Assemble.{assemble_units}
-use Rattle.dvd_commands.proofs.OneRun.{one_closing, one_run, once_by_layout}
-use Rattle.dvd_commands.proofs.OtherWorkers.{layout_with}
-use Rattle.dvd_commands.proofs.RunFacts.{RunFacts}
-use Rattle.dvd_commands.proofs.SomeRun.{runs_exist, some_by_layout}
+use Rattle.dvd_commands.proofs.OneRun.{one_closing, one_run}
+use Rattle.dvd_commands.proofs.RunFacts.{RunFacts, facts_by_layout}
+use Rattle.dvd_commands.proofs.SomeRun.{runs_exist}
 use Rattle.dvd_loop.specs.Machine.{Units}
 use Rattle.dvd_loop.specs.declared.ends.UnitKind.TheVariants.{Good}
 use Rattle.dvd_words.specs.declared.table.Command.TheVariants.{Assemble}
@@ -17,13 +16,11 @@ abbrev frames : Settings → Layout → Units
 frames settings layout = assemble_units layout settings.form settings.frames
 
 pub facts : RunFacts Assemble
-facts = record {
-  once = λ settings bytes. once_by_layout frames settings bytes (λ layout.
-      one_run (frames settings layout) (λ k. frame_size settings.form) (λ k own. refl)
-      (λ before own steps others kind other x y. (x.0 ∙ sym y.0, x.1 ∙ sym y.1)) (λ before. one_closing) bytes);
-  some = λ settings bytes six are none addresses. some_by_layout frames settings bytes none (λ layout.
-      runs_exist (frames settings layout) (λ k. frame_size settings.form) (λ k own. refl)
-      (λ before own lt is. ([], Good, (refl, refl))) (λ before all. (_, refl)) bytes are);
-  alike = λ workers settings bytes outcome goes. (goes.0, layout_with workers settings goes.0 goes.1, goes.2);
-  valid = λ settings none. none;
-}
+facts =
+    facts_by_layout frames (λ workers settings layout bytes outcome runs. runs)
+    (λ settings layout.
+    one_run (frames settings layout) (λ k. frame_size settings.form) (λ k own. refl)
+    (λ before own steps others kind other x y. (x.0 ∙ sym y.0, x.1 ∙ sym y.1)) (λ before. one_closing))
+    (λ settings layout bytes six are.
+    runs_exist (frames settings layout) (λ k. frame_size settings.form) (λ k own. refl)
+    (λ before own lt is. ([], Good, (refl, refl))) (λ before all. (_, refl)) bytes are)

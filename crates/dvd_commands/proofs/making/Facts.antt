@@ -7,7 +7,7 @@ use Rattle.dvd_loop.specs.declared.ends.UnitKind.TheVariants.{Good}
 use Rattle.dvd_commands.specs.CdMake.{cdmake_units}
 use Rattle.dvd_commands.specs.Frames.{frames_units}
 use Rattle.dvd_commands.proofs.OneRun.{one_closing, one_run}
-use Rattle.dvd_commands.proofs.RunFacts.{RunFacts}
+use Rattle.dvd_commands.proofs.RunFacts.{RunFacts, facts_by_settings}
 use Rattle.dvd_commands.proofs.SomeRun.{runs_exist}
 use Rattle.dvd_commands.proofs.SomeThing.{no_closing}
 use Rattle.dvd_commands.proofs.making.Done.{made_is_one, made_some}
@@ -19,32 +19,25 @@ abbrev frames : Settings → Units
 frames settings = frames_units settings.first settings.sectors
 
 pub frames_facts : RunFacts Frames
-frames_facts = record {
-  once = λ settings bytes a b goes others.
-      one_run (frames settings) (λ k. 2048) (λ k own. refl) (λ before own. made_is_one _ (λ a b p q. p ∙ sym q)) (λ before. one_closing)
-      bytes a b goes.2 others.2;
-  some = λ settings bytes six are none addresses.
-      let exists = runs_exist (frames settings) (λ k. 2048) (λ k own. refl)
-      (λ before own lt is. (Write _ ∷ [], Good, record { made = _; holds = refl; writes = refl; good = refl })) (λ before all. no_closing) bytes are in
-      (exists.0, (tt, tt, exists.1), exists.2);
-  alike = λ workers settings bytes outcome goes. goes;
-  valid = λ settings none. refl;
-}
+frames_facts =
+    facts_by_settings frames (λ workers settings bytes outcome runs. runs)
+    (λ settings.
+    one_run (frames settings) (λ k. 2048) (λ k own. refl) (λ before own. made_is_one _ (λ a b p q. p ∙ sym q)) (λ before. one_closing))
+    (λ settings bytes are needs.
+    runs_exist (frames settings) (λ k. 2048) (λ k own. refl)
+    (λ before own lt is. (Write _ ∷ [], Good, record { made = _; holds = refl; writes = refl; good = refl })) (λ before all. no_closing) bytes are)
 
 -- those of `cdmake`
 abbrev sectors : Settings → Units
 sectors settings = cdmake_units settings.address settings.sectors
 
 pub cdmake_facts : RunFacts CdMake
-cdmake_facts = record {
-  once = λ settings bytes a b goes others.
-      one_run (sectors settings) (λ k. 2048) (λ k own. refl)
-      (λ before own. made_is_one _ (one_sector (settings.address + length before) own)) (λ before. one_closing) bytes a b goes.2 others.2;
-  some = λ settings bytes six are none addresses.
-      let last = addresses refl in
-      let exists = runs_exist (sectors settings) (λ k. 2048) (λ k own. refl)
-      (λ before own within. made_some (settings.address + length before) own (omega (arith, last))) (λ before all. no_closing) bytes are in
-      (exists.0, (tt, tt, exists.1), exists.2);
-  alike = λ workers settings bytes outcome goes. goes;
-  valid = λ settings none. refl;
-}
+cdmake_facts =
+    facts_by_settings sectors (λ workers settings bytes outcome runs. runs)
+    (λ settings.
+    one_run (sectors settings) (λ k. 2048) (λ k own. refl)
+    (λ before own. made_is_one _ (one_sector (settings.address + length before) own)) (λ before. one_closing))
+    (λ settings bytes are needs.
+    let last = needs refl in
+    runs_exist (sectors settings) (λ k. 2048) (λ k own. refl)
+    (λ before own within. made_some (settings.address + length before) own (omega (arith, last))) (λ before all. no_closing) bytes are)
