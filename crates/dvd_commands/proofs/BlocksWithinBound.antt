@@ -33,10 +33,10 @@ use Rattle.dvd_decoding.specs.Reading.{block_cause, block_sectors}
 use Rattle.dvd_read.proofs.BlockRead.{no_cause-read, read-determined}
 use Rattle.dvd_read.proofs.Outcomes.{agrees-no_cause}
 use Rattle.dvd_read.proofs.Mastered.{within-read}
-use Rattle.dvd_commands.specs.Captured.{captured_part}
+use Rattle.dvd_commands.specs.Captured.{ForImage, captured_part}
 use Rattle.dvd_commands.specs.Master.{cpr_in, filled_block, frames_of, image_bytes}
-use Rattle.dvd_commands.specs.Deep.{IsDeepened, IsImageRead, IsReadDeep}
-use Rattle.dvd_commands.specs.Recover.{IsDone, IsImageDone, IsRecovered}
+use Rattle.dvd_commands.specs.Deep.{IsDeepened, IsImageRead}
+use Rattle.dvd_commands.specs.Recover.{IsImageDone, IsRecovered}
 use Rattle.dvd_commands.specs.Inner.Performing.{sectors_out}
 use Rattle.dvd_commands.specs.Laws.{DamageWithinTheBoundIsRepaired}
 use Rattle.dvd_commands.proofs.CapturedParts.{whole_enough}
@@ -94,7 +94,7 @@ pub recovered_at : (layout : Layout) (zones : Zones) (form : Form) (k : ℕ) (en
     → IsImageDone layout k entry (captured_rows form own) (captured_marks form own) steps kind
 recovered_at layout zones form k entry own steps kind stands is_image does =
     of_image (IsImageDone layout k entry (captured_rows form own) (captured_marks form own)) entry.content is_image steps kind
-    (done_at (plan_of layout zones) (λ e. IsDone e.content layout k e) form k entry stands own steps kind does)
+    (done_at (plan_of layout zones) (ForImage (IsImageDone layout k)) form k entry stands own steps kind does)
 
 -- Of damage within the bound the block is read, and it is that which was mastered.
 within_is_read : (layout : Layout) (zones : Zones) (form : Form) (cpr : List ℕ) (k : ℕ) (entry : BlockPlan) (image own : List ℕ) (block : List (List ℕ))
@@ -145,7 +145,7 @@ repaired_deep layout zones form cpr k entry image own block steps kind stands is
     let deep = read-deep rows marks entry (block_sectors rows marks entry) received.height received.marks_height read in
     let none : two_pass_cause (answers_of rows marks) ≡ None =
     agrees-no_cause (answers_of rows marks) read.block (length-answers_of rows marks 208 received.height received.marks_height) read.agrees in
-    let done = done_at (plan_of layout zones) (λ e. IsReadDeep e.content layout k e) form k entry stands own steps kind does in
+    let done = done_at (plan_of layout zones) (ForImage (IsImageRead layout k)) form k entry stands own steps kind does in
     elim (of_image (IsImageRead layout k entry rows marks) entry.content is_image steps kind done) [
       | inr lost ↦ let first = lost.first in let no = deep-no_cause rows marks entry 1 (block_sectors rows marks entry) deep in cc
       | inl given ↦

@@ -16,7 +16,7 @@ use Rattle.dvd_decoding.specs.Salvage.{block_out, saved_in}
 use Rattle.dvd_report.specs.Lines.{damage_line}
 use Rattle.dvd_commands.specs.Recover.{IsRefused}
 use Rattle.dvd_commands.specs.Inner.Performing.{sectors_out}
-use Rattle.dvd_commands.specs.Captured.{IfImage, IsDoneByEntry, IsPassedOver}
+use Rattle.dvd_commands.specs.Captured.{ForImage, IfImage, IsDoneByEntry, IsPassedOver}
 
 -- one thing alone may be done
 abbrev pub MayOne : (List Step → UnitKind → Type 0) → Type 0
@@ -35,7 +35,7 @@ pub passed_is_one : MayOne IsPassedOver
 passed_is_one steps others kind other p q = (p.0 ∙ sym q.0, p.1 ∙ sym q.1)
 
 -- so where one thing alone is done for image, it is whatever a block holds
-pub if_image_is_one : (Performs : List Step → UnitKind → Type 0) → MayOne Performs → (content : Content) → MayOne (IfImage Performs content)
+if_image_is_one : (Performs : List Step → UnitKind → Type 0) → MayOne Performs → (content : Content) → MayOne (IfImage Performs content)
 if_image_is_one Performs one (Image sector) = one
 if_image_is_one Performs one content = passed_is_one
 
@@ -46,6 +46,14 @@ pub entry_is_one : (entries : List BlockPlan) (Performs : BlockPlan → List (Li
 entry_is_one entries Performs one form k own steps others kind other p q =
     one p.entry (captured_rows form own) (captured_marks form own) (length-captured_rows form own) (length-captured_marks form own) steps others kind other
     p.does (done_at entries Performs form k p.entry p.stands own others other q)
+
+-- so it is where that is done for image, and any other block is passed over
+pub image_is_one : (entries : List BlockPlan) (Performs : BlockPlan → List (List ℕ) → List (List Bool) → List Step → UnitKind → Type 0)
+    → ((entry : BlockPlan) (rows : List (List ℕ)) (marks : List (List Bool)) → length rows ≡ 208 → length marks ≡ 208 → MayOne (Performs entry rows marks))
+    → (form : Form) (k : ℕ) (own : List ℕ) → MayOne (IsDoneByEntry entries (ForImage Performs) form k own)
+image_is_one entries Performs one =
+    entry_is_one entries (ForImage Performs)
+    (λ entry rows marks size marks_size. if_image_is_one (Performs entry rows marks) (one entry rows marks size marks_size) entry.content)
 
 -- a refused block has one first cause, so one line and one set of saved sectors
 pub refused_is_one : (has : Option Cause) (layout : Layout) (k : ℕ) (entry : BlockPlan) (rows : List (List ℕ)) (marks : List (List Bool))

@@ -15,7 +15,7 @@ use Rattle.dvd_decoding.specs.Salvage.{block_out, saved_in}
 use Rattle.dvd_report.specs.Lines.{damage_line}
 use Rattle.dvd_commands.specs.Recover.{IsRefused}
 use Rattle.dvd_commands.specs.Inner.Performing.{sectors_out}
-use Rattle.dvd_commands.specs.Captured.{IfImage, IsDoneByEntry, IsPassedOver}
+use Rattle.dvd_commands.specs.Captured.{ForImage, IfImage, IsDoneByEntry, IsPassedOver}
 use Rattle.dvd_loop.specs.declared.ends.UnitKind.TheVariants.{Good, Bad}
 use Rattle.dvd_commands.proofs.EntryBlocks.{length-captured_marks, length-captured_rows}
 use Rattle.dvd_commands.proofs.FrameBytes.{HasBytes}
@@ -34,7 +34,7 @@ pub passed_some : MaySome IsPassedOver
 passed_some = ([], Good, (refl, refl))
 
 -- where something may be done for image, something may whatever a block holds
-pub if_image_some : (Performs : List Step → UnitKind → Type 0) → MaySome Performs → (content : Content) → MaySome (IfImage Performs content)
+if_image_some : (Performs : List Step → UnitKind → Type 0) → MaySome Performs → (content : Content) → MaySome (IfImage Performs content)
 if_image_some Performs some (Image sector) = some
 if_image_some Performs some content = passed_some
 
@@ -46,6 +46,14 @@ entry_some entries Performs some form k own within =
     let at = some_entry entries k within in
     let done = some at.0 (captured_rows form own) (captured_marks form own) (length-captured_rows form own) (length-captured_marks form own) in
     (done.0, done.1, record { entry = at.0; stands = at.1; does = done.2 })
+
+-- so it may where that is for image, and any other block is passed over
+pub image_some : (entries : List BlockPlan) (Performs : BlockPlan → List (List ℕ) → List (List Bool) → List Step → UnitKind → Type 0)
+    → ((entry : BlockPlan) (rows : List (List ℕ)) (marks : List (List Bool)) → length rows ≡ 208 → length marks ≡ 208 → MaySome (Performs entry rows marks))
+    → (form : Form) (k : ℕ) (own : List ℕ) → k < length entries → MaySome (IsDoneByEntry entries (ForImage Performs) form k own)
+image_some entries Performs some =
+    entry_some entries (ForImage Performs)
+    (λ entry rows marks size marks_size. if_image_some (Performs entry rows marks) (some entry rows marks size marks_size) entry.content)
 
 -- a block may be refused for a cause that it has
 pub refused_some : (has : Option Cause) (cause : Cause) → has ≡ Some cause → (layout : Layout) (k : ℕ) (entry : BlockPlan) (rows : List (List ℕ)) (marks : List (List Bool))

@@ -106,3 +106,7 @@ IfImage Performs (Image sector) steps kind = Performs steps kind
 IfImage Performs Zero steps kind = IsPassedOver steps kind
 IfImage Performs Reference steps kind = IsPassedOver steps kind
 IfImage Performs Control steps kind = IsPassedOver steps kind
+
+-- the same by the entry of a block, and by its rows and marks
+abbrev pub ForImage : (BlockPlan → List (List ℕ) → List (List Bool) → List Step → UnitKind → Type 0) → BlockPlan → List (List ℕ) → List (List Bool) → List Step → UnitKind → Type 0
+ForImage Performs entry rows marks = IfImage (Performs entry rows marks) entry.content

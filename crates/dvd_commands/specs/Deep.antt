@@ -10,7 +10,6 @@ use Rattle.dvd_deep.specs.Reading.{IsDeep, deep_cause}
 use Rattle.dvd_layout.specs.Place.{image_sectors}
 use Rattle.dvd_layout.specs.Plan.{plan_of}
 use Rattle.dvd_layout.specs.declared.entry.BlockPlan.{BlockPlan}
-use Rattle.dvd_layout.specs.declared.entry.Content.{Content}
 use Rattle.dvd_layout.specs.declared.layout.Layout.{Layout}
 use Rattle.dvd_layout.specs.declared.layout.Zones.{Zones}
 use Rattle.dvd_loop.specs.Machine.{Step, Units}
@@ -20,7 +19,7 @@ use Rattle.dvd_loop.specs.declared.ends.UnitKind.TheVariants.{Good}
 use Rattle.dvd_decoding.specs.Causes.{two_pass_cause}
 use Rattle.dvd_decoding.specs.declared.cause.Cause.{Cause}
 use Rattle.dvd_report.specs.Lines.{round_line}
-use Rattle.dvd_commands.specs.Captured.{IfImage, IsDoneByEntry, captured_units}
+use Rattle.dvd_commands.specs.Captured.{ForImage, IsDoneByEntry, captured_units}
 use Rattle.dvd_commands.specs.Recover.{IsRefused}
 use Rattle.dvd_commands.specs.Meaning.{Meaning, by_layout}
 
@@ -43,13 +42,9 @@ abbrev pub IsImageRead : Layout → ℕ → BlockPlan → List (List ℕ) → Li
 IsImageRead layout k entry rows marks steps kind =
     IsGivenBack layout k entry rows marks steps kind ⊎ IsRefused (deep_cause rows marks entry) layout k entry rows marks steps kind
 
--- a block that holds none is passed over
-abbrev pub IsReadDeep : Content → Layout → ℕ → BlockPlan → List (List ℕ) → List (List Bool) → List Step → UnitKind → Type 0
-IsReadDeep content layout k entry rows marks = IfImage (IsImageRead layout k entry rows marks) content
-
--- what is done for block k of the plan, whose captured bytes are its own
+-- what is done for block k of the plan, as in `recover`
 abbrev pub IsDeepened : Layout → Zones → Form → ℕ → List ℕ → List Step → UnitKind → Type 0
-IsDeepened layout zones form k = IsDoneByEntry (plan_of layout zones) (λ entry. IsReadDeep entry.content layout k entry) form k
+IsDeepened layout zones form k = IsDoneByEntry (plan_of layout zones) (ForImage (IsImageRead layout k)) form k
 
 -- the units are the captured blocks of the plan
 abbrev pub deep_units : Layout → Zones → Form → Units

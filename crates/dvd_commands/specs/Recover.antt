@@ -8,7 +8,6 @@ use Rattle.dvd_capture.specs.declared.form.Form.{Form}
 use Rattle.dvd_layout.specs.Place.{image_sectors}
 use Rattle.dvd_layout.specs.Plan.{plan_of}
 use Rattle.dvd_layout.specs.declared.entry.BlockPlan.{BlockPlan}
-use Rattle.dvd_layout.specs.declared.entry.Content.{Content}
 use Rattle.dvd_layout.specs.declared.layout.Layout.{Layout}
 use Rattle.dvd_layout.specs.declared.layout.Zones.{Zones}
 use Rattle.dvd_loop.specs.Machine.{Step, Units}
@@ -19,7 +18,7 @@ use Rattle.dvd_decoding.specs.Reading.{IsReadAs, block_cause}
 use Rattle.dvd_decoding.specs.Salvage.{block_out, saved_in}
 use Rattle.dvd_decoding.specs.declared.cause.Cause.{Cause}
 use Rattle.dvd_report.specs.Lines.{damage_line}
-use Rattle.dvd_commands.specs.Captured.{IfImage, IsDoneByEntry, captured_units}
+use Rattle.dvd_commands.specs.Captured.{ForImage, IsDoneByEntry, captured_units}
 use Rattle.dvd_commands.specs.Meaning.{Meaning, by_layout}
 use Rattle.coding.specs.Product.{line}
 use Rattle.dvd_capture.specs.Answers.{marks_line}
@@ -45,13 +44,9 @@ abbrev pub IsImageDone : Layout → ℕ → BlockPlan → List (List ℕ) → Li
 IsImageDone layout k entry rows marks steps kind =
     IsGiven layout entry rows marks steps kind ⊎ IsRefused (block_cause rows marks entry) layout k entry rows marks steps kind
 
--- a block that holds none is passed over
-abbrev pub IsDone : Content → Layout → ℕ → BlockPlan → List (List ℕ) → List (List Bool) → List Step → UnitKind → Type 0
-IsDone content layout k entry rows marks = IfImage (IsImageDone layout k entry rows marks) content
-
--- what is done for block k of the plan, whose captured bytes are its own
+-- what is done for block k of the plan, whose captured bytes are its own; one that holds no image is passed over
 abbrev pub IsRecovered : Layout → Zones → Form → ℕ → List ℕ → List Step → UnitKind → Type 0
-IsRecovered layout zones form k = IsDoneByEntry (plan_of layout zones) (λ entry. IsDone entry.content layout k entry) form k
+IsRecovered layout zones form k = IsDoneByEntry (plan_of layout zones) (ForImage (IsImageDone layout k)) form k
 
 -- the units are the captured blocks of the plan
 abbrev pub recover_units : Layout → Zones → Form → Units

@@ -1,20 +1,16 @@
 //! Captured blocks, as the commands that read a stream of them use them.
-//! `Work` is the memory of one: its received rows and marks, what two passes made of them, and its sixteen sectors. Its
-//! stage says what of these there is: `HasBlock`, a block was received; `HasAnswers`, its rows were decoded too.
-//! `HasNumbers` says that the numbers of an entry's sixteen sectors have 24 bits, as those of every plan have.
-//! `AreDone` says which steps, writes and lines, are done for a unit; where a call fails, only a first part of them is.
-//! Clauses `causes` say by the counts of a stream that the call that failed, where one did, was its last.
-ghost use Rattle.std.specs.Prelude.{◌≤◌, IfErr, OnOk};
+ghost use Rattle.std.specs.Prelude.{IfErr, OnOk};
 ghost use Rattle.dvd_capture.specs.Captured.{Captures};
 ghost use Rattle.dvd_capture.specs.Rule.{HasAnswers, HasBlock};
 ghost use Rattle.dvd_capture.specs.Works.{rows_of, marks_of_work, sectors_of, stage_of};
 ghost use Rattle.dvd_loop.specs.Streams.{streams};
-ghost use Rattle.dvd_layout.specs.Place.{HasNumbers};
+ghost use Rattle.dvd_layout.specs.Place.{HasNumbers, image_sectors};
 ghost use Rattle.dvd_loop.specs.UnitCommand.{AreDone, HasReadCause};
 ghost use Rattle.dvd_ports.specs.Seen.{Seen};
 ghost use Rattle.dvd_ports.specs.Whole.{IsWritten};
-ghost use Rattle.dvd_commands.specs.Inner.Performing.{EndsCaptured, IsRefusedFor, sectors_out};
+ghost use Rattle.dvd_commands.specs.Inner.Performing.{EndsCaptured, IsRefusedFor, WritesAlone, sectors_out};
 
+use crate::unit::{line_told, unit_written};
 use dvd_capture::{FetchAnswer, Form, Work, fetch};
 use dvd_layout::{BlockPlan, Layout};
 use dvd_loop::{LoopEnd, Processed, UnitKind};
@@ -71,25 +67,23 @@ pub(crate) fn refuse_block<K: Sink, E: Sink>(
         (streams source (K.seen out.old) (E.seen report.old)) (streams source (K.seen out.new) (E.seen report.new)) result }
 {
     let saved = salvage(work, block.entry);
-    // Named here: `?` would make `WriteFault` of it, which is a fault of the output.
-    if let Err(WriteFault) = write_cause(u64::from(block.k), block.entry, cause, saved, report) {
-        return Err(LoopEnd::ReportFault);
-    }
-    write_sectors(work, block.layout.image_sectors(block.entry.content), out)?;
-    Ok(UnitKind::Bad)
+    line_told(write_cause(u64::from(block.k), block.entry, cause, saved, report))?;
+    write_image(block, work, UnitKind::Bad, out)
 }
 
-/// Writes the first sectors, one after the other.
-/// Only those of the image: its last block may have fewer than sixteen.
-pub(crate) fn write_sectors<K: Sink>(
+/// Writes the image sectors of a block, which is then of this kind.
+/// Only those of the image: the last block of a layer may have fewer than sixteen.
+pub(crate) fn write_image<K: Sink>(
+    block: &Planned<'_>,
     work: &Work,
-    count: usize,
+    kind: UnitKind,
     out: &mut K,
-) -> Result<(), WriteFault>
-    requires { count ≤ 16 }
-    ensures { IsWritten (sectors_out count (sectors_of work.now)) (K.seen out.old) (K.seen out.new) result }
+) -> Processed
+    ensures { (source report : Seen) → AreDone (WritesAlone (sectors_out (image_sectors block.now.layout.now block.now.entry.now.content) (sectors_of work.now)) kind)
+        (streams source (K.seen out.old) report) (streams source (K.seen out.new) report) result }
 {
-    write_each(work.first_sectors(count), out)
+    let count = block.layout.image_sectors(block.entry.content);
+    unit_written(write_each(work.first_sectors(count), out), kind)
 }
 
 /// Writes the sectors in these bytes, each by a `write_whole` of its own. After a fault a prefix of the bytes was

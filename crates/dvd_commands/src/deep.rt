@@ -26,23 +26,24 @@ ghost use Rattle.dvd_loop.specs.UnitCommand.{AreDone};
 ghost use Rattle.dvd_loop.specs.declared.ends.UnitKind.TheVariants.{Good};
 ghost use Rattle.dvd_decoding.specs.Reading.{block_cause};
 ghost use Rattle.dvd_report.specs.Lines.{round_line};
-ghost use Rattle.dvd_commands.specs.Captured.{IsCaptureEnd};
-ghost use Rattle.dvd_commands.specs.Deep.{IsReadDeep, deep_units};
+ghost use Rattle.dvd_commands.specs.Captured.{ForImage, IsCaptureEnd};
+ghost use Rattle.dvd_commands.specs.Deep.{IsImageRead, deep_units};
 ghost use Rattle.dvd_commands.specs.Performed.{IsPerformed};
 ghost use Rattle.dvd_commands.specs.Inner.Performing.{IsFoundBy, TellsAndWrites};
 ghost use Rattle.dvd_words.specs.Settings.{IsLayoutOf};
 
 use crate::blocks::Blocks;
-use crate::captured::{Planned, fetch_block, refuse_block, write_each, write_sectors};
+use crate::captured::{Planned, fetch_block, refuse_block, write_each, write_image};
 use crate::opening::{layout_from_arguments, open_blocks};
 use crate::refusal::Refusal;
 use crate::start::Start;
+use crate::unit::{line_told, unit_written};
 use dvd_block::Piece;
 use dvd_capture::{Form, Work};
 use dvd_deep::Deep;
 use dvd_layout::{BlockPlan, Content, Layout};
 use dvd_loop::{LoopEnd, PlainCommand, Processed, UnitKind, run_plain};
-use dvd_ports::{Sink, Source, WriteFault};
+use dvd_ports::{Sink, Source};
 use dvd_read::{Cause, read_block};
 use dvd_report::write_round;
 use dvd_words::{Command, Settings};
@@ -169,7 +170,7 @@ fn deep_block<K: Sink, E: Sink>(
 ) -> Processed
     requires numbers { HasNumbers block.now.entry.now }
     requires stage { HasBlock (stage_of work.old) }
-    ensures { (source : Seen) → AreDone (IsReadDeep block.now.entry.now.content block.now.layout.now block.now.k block.now.entry.now (rows_of work.old) (marks_of_work work.old))
+    ensures { (source : Seen) → AreDone (ForImage (IsImageRead block.now.layout.now block.now.k) block.now.entry.now (rows_of work.old) (marks_of_work work.old))
         (streams source (K.seen out.old) (E.seen report.old)) (streams source (K.seen out.new) (E.seen report.new)) result }
 {
     let entry = block.entry;
@@ -177,24 +178,14 @@ fn deep_block<K: Sink, E: Sink>(
         Content::Image(_) => {}
         Content::Zero | Content::Reference | Content::Control => return Ok(UnitKind::Good),
     }
-    // Sixteen, or fewer in the last block of the image: what fills that block up isn't written.
-    let count = block.layout.image_sectors(entry.content);
     match read_block(work, entry) {
-        // What was fixed isn't reported: a block that two passes determine has no line.
-        Ok(_) => {
-            write_sectors(work, count, out)?;
-            Ok(UnitKind::Good)
-        }
-        // Rounds are for refused blocks alone: one that two passes determine is given as `recover` gives it.
+        Ok(_) => write_image(block, work, UnitKind::Good, out),
         Err(cause) => match search_block(entry, cause, deep, work, piece) {
-            Ok(round) => give_back(
-                block.k,
-                entry,
-                round,
-                &piece.bytes()[..2048 * count],
-                out,
-                report,
-            ),
+            Ok(round) => {
+                let count = block.layout.image_sectors(entry.content);
+                let sectors = &piece.bytes()[..2048 * count];
+                give_back(block.k, entry, round, sectors, out, report)
+            }
             Err(cause) => refuse_block(block, &cause, work, out, report),
         },
     }
@@ -240,10 +231,6 @@ fn give_back<K: Sink, E: Sink>(
     ensures { (source : Seen) → AreDone (TellsAndWrites (round_line k entry.now round) sectors.now Good)
         (streams source (K.seen out.old) (E.seen report.old)) (streams source (K.seen out.new) (E.seen report.new)) result }
 {
-    // Named here: `?` would make `WriteFault` of it, which is a fault of the output.
-    if let Err(WriteFault) = write_round(u64::from(k), entry, round, report) {
-        return Err(LoopEnd::ReportFault);
-    }
-    write_each(sectors, out)?;
-    Ok(UnitKind::Good)
+    line_told(write_round(u64::from(k), entry, round, report))?;
+    unit_written(write_each(sectors, out), UnitKind::Good)
 }

@@ -26,6 +26,7 @@ mod recover; // image sectors from a stream of captured blocks
 mod refusal; // why a command doesn't begin
 mod start; // what a command begins with: its memory and its settings
 mod survey; // a line for each captured block, and a line of totals
+mod unit; // what the writes of a unit came to
 mod workers; // what makes the workers, and what they do for a unit of a command
 
 pub use assemble::assemble_loop;

@@ -11,6 +11,7 @@ ghost use Rattle.dvd_commands.specs.Frames.{IsSectorFrame};
 ghost use Rattle.dvd_commands.specs.Making.{IsMade, sectors_made};
 ghost use Rattle.dvd_commands.specs.Inner.Making.{IsMadeAs, number_limit};
 
+use crate::unit::unit_written;
 use cd_sector::make;
 use dvd_frame::{Area, Id, Rule, make_frame};
 use dvd_loop::{LoopEnd, PlainCommand, Processed, UnitKind, read_unit, run_plain};
@@ -94,15 +95,14 @@ fn write_made<K: Sink>(made: Made, number: u32, sector: &[u8; 2048], out: &mut K
         Made::DataFrame => {
             let mut frame = [0; 2064];
             write_frame(number, sector, &mut frame);
-            write_whole(out, &frame)?;
+            unit_written(write_whole(out, &frame), UnitKind::Good)
         }
         Made::CdSector => {
             let mut whole = [0; 2352];
             make(number, sector, &mut whole);
-            write_whole(out, &whole)?;
+            unit_written(write_whole(out, &whole), UnitKind::Good)
         }
     }
-    Ok(UnitKind::Good)
 }
 
 // There is no disk, so the ID says layer 0 of a disk with one layer (`false`: bit 29 is 0), and CPR_MAI is zeros. All

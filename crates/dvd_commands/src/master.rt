@@ -29,6 +29,7 @@ ghost use Rattle.dvd_words.specs.Settings.{IsLayoutOf};
 use crate::blocks::Blocks;
 use crate::refusal::Refusal;
 use crate::start::Start;
+use crate::unit::unit_written;
 use crate::workers::{Workers, add_by};
 use dvd_block::{Block, Piece};
 use dvd_control::main_of;
@@ -82,8 +83,7 @@ impl<'a, 'r, F: Fn(&mut Block), S: Source, K: Sink, E: Sink> PlainCommand<S, K, 
             sectors: self.piece.bytes(),
         };
         fill_block(&given, self.add, self.block);
-        self.block.write_recording(out)?;
-        Ok(UnitKind::Good)
+        unit_written(self.block.write_recording(out), UnitKind::Good)
     }
 }
 

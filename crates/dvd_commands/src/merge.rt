@@ -24,6 +24,7 @@ ghost use Rattle.dvd_words.specs.Settings.{IsLayoutOf};
 use crate::blocks::Blocks;
 use crate::refusal::Refusal;
 use crate::start::Start;
+use crate::unit::unit_written;
 use dvd_capture::{FetchAnswer, Form, Work, fetch};
 use dvd_layout::Layout;
 use dvd_loop::{LoopEnd, PlainCommand, Processed, UnitKind, run_plain};
@@ -65,8 +66,7 @@ impl<'a, S: Source, K: Sink, E: Sink> PlainCommand<S, K, E> for Merging<'a> {
     // The join goes out in the marked form, since a place where captures differ is marked.
     fn process(&mut self, k: u32, src: &mut S, out: &mut K, _report: &mut E) -> Processed {
         take_captures(src, k, self.form, self.captures, self.merge, self.work)?;
-        self.merge.write_marked(out)?;
-        Ok(UnitKind::Good)
+        unit_written(self.merge.write_marked(out), UnitKind::Good)
     }
 }
 

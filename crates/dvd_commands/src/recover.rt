@@ -23,14 +23,14 @@ ghost use Rattle.dvd_loop.specs.Machine.{IsOutcome};
 ghost use Rattle.dvd_loop.specs.Streams.{streams, HasEnded};
 ghost use Rattle.dvd_loop.specs.UnitCommand.{AreDone};
 ghost use Rattle.dvd_read.specs.Calls.{IsBlockRead};
-ghost use Rattle.dvd_commands.specs.Captured.{IsCaptureEnd};
-ghost use Rattle.dvd_commands.specs.Recover.{IsDone, recover_units};
+ghost use Rattle.dvd_commands.specs.Captured.{ForImage, IsCaptureEnd};
+ghost use Rattle.dvd_commands.specs.Recover.{IsImageDone, recover_units};
 ghost use Rattle.dvd_commands.specs.Performed.{IsPerformed};
 ghost use Rattle.dvd_commands.specs.Inner.Workers.{IsReader, MayRead};
 ghost use Rattle.dvd_words.specs.Settings.{IsLayoutOf};
 
 use crate::blocks::Blocks;
-use crate::captured::{Planned, fetch_block, refuse_block, write_sectors};
+use crate::captured::{Planned, fetch_block, refuse_block, write_image};
 use crate::opening::{layout_from_arguments, open_blocks};
 use crate::refusal::Refusal;
 use crate::start::Start;
@@ -176,21 +176,15 @@ fn recover_block<F: Fn(&mut Work, &BlockPlan) -> Result<Fixed, Cause>, K: Sink, 
     requires reader { IsReader F.Fn read.now }
     requires numbers { HasNumbers block.now.entry.now }
     requires stage { HasBlock (stage_of work.old) }
-    ensures { (source : Seen) → AreDone (IsDone block.now.entry.now.content block.now.layout.now block.now.k block.now.entry.now (rows_of work.old) (marks_of_work work.old))
+    ensures { (source : Seen) → AreDone (ForImage (IsImageDone block.now.layout.now block.now.k) block.now.entry.now (rows_of work.old) (marks_of_work work.old))
         (streams source (K.seen out.old) (E.seen report.old)) (streams source (K.seen out.new) (E.seen report.new)) result }
 {
     match block.entry.content {
         Content::Image(_) => {}
         Content::Zero | Content::Reference | Content::Control => return Ok(UnitKind::Good),
     }
-    // Sixteen, or fewer in the last block of the image: what fills that block up isn't written.
-    let count = block.layout.image_sectors(block.entry.content);
     match read_by(read, work, block.entry) {
-        // What was fixed isn't reported: an accepted block has no line here, and `survey` counts rows.
-        Ok(_) => {
-            write_sectors(work, count, out)?;
-            Ok(UnitKind::Good)
-        }
+        Ok(_) => write_image(block, work, UnitKind::Good, out),
         Err(cause) => refuse_block(block, &cause, work, out, report),
     }
 }

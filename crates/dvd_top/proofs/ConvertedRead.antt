@@ -25,7 +25,8 @@ use Rattle.dvd_loop.proofs.StepLemmas.{does_all, onto, taken_then}
 use Rattle.dvd_commands.specs.Commands.{GoesOver, meaning}
 use Rattle.dvd_commands.specs.Meaning.{GoesBy}
 use Rattle.dvd_commands.specs.Convert.{convert_units}
-use Rattle.dvd_commands.specs.Recover.{IsDone, IsRecovered, recover_units}
+use Rattle.dvd_commands.specs.Captured.{ForImage, IfImage}
+use Rattle.dvd_commands.specs.Recover.{IsImageDone, IsRecovered, recover_units}
 use Rattle.dvd_top.specs.Laws.{ConvertedIsRead}
 use Rattle.dvd_commands.specs.Opening.{IsHeaderOf, IsOpened, Opens}
 use Rattle.dvd_commands.proofs.CapturedUnits.{captured_whole}
@@ -36,7 +37,7 @@ use Rattle.dvd_words.specs.declared.settings.Settings.{Settings}
 
 -- no block that is recovered is the last
 done_not_last : (content : Content) (layout : Layout) (k : ℕ) (entry : BlockPlan) (rows : List (List ℕ)) (marks : List (List Bool)) (steps : List Step)
-    → IsDone content layout k entry rows marks steps Last → ⊥
+    → IfImage (IsImageDone layout k entry rows marks) content steps Last → ⊥
 done_not_last (Image sector) layout k entry rows marks steps does = elim does [
   | inl given ↦ (let no : Last ≡ Good = given.good in cc)
   | inr refused ↦ (let no : Last ≡ Bad = refused.bad in cc)
@@ -119,9 +120,9 @@ module _ (layout : Layout) (zones : Zones) (form : Form) (has : HasSize form) (o
         let entry = o.unit.does.entry in record {
           entry = entry;
           stands = subst (λ k. slice_get (plan_of layout zones) k ≡ Some entry) same o.unit.does.stands;
-          does = subst (λ k. IsDone entry.content layout k entry (captured_rows Listed t.unit.does.unit) (captured_marks Listed t.unit.does.unit) o.steps o.kind) same
-              (subst (λ m. IsDone entry.content layout (length rb) entry (captured_rows Listed t.unit.does.unit) m o.steps o.kind) marks
-              (subst (λ r. IsDone entry.content layout (length rb) entry r (captured_marks form o.own) o.steps o.kind) rows o.unit.does.does));
+          does = subst (λ k. ForImage (IsImageDone layout k) entry (captured_rows Listed t.unit.does.unit) (captured_marks Listed t.unit.does.unit) o.steps o.kind) same
+              (subst (λ m. ForImage (IsImageDone layout (length rb)) entry (captured_rows Listed t.unit.does.unit) m o.steps o.kind) marks
+              (subst (λ r. ForImage (IsImageDone layout (length rb)) entry r (captured_marks form o.own) o.steps o.kind) rows o.unit.does.does));
         }
 
     -- so where the blocks to come are read again, this one is too

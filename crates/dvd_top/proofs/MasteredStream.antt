@@ -29,8 +29,8 @@ use Rattle.dvd_loop.specs.declared.ends.UnitKind.TheVariants.{Good}
 use Rattle.dvd_loop.proofs.Sizes.{sized_whole}
 use Rattle.dvd_loop.proofs.Over.{AreGood, InPieces, over, over_is, same_pieces, start}
 use Rattle.dvd_commands.specs.Master.{IsMastered, bytes_of_block, filled_block, frames_of, image_bytes, image_part, master_units}
-use Rattle.dvd_commands.specs.Recover.{IsDone, IsRecovered, recover_units}
-use Rattle.dvd_commands.specs.Captured.{IsPassedOver}
+use Rattle.dvd_commands.specs.Recover.{IsImageDone, IsRecovered, recover_units}
+use Rattle.dvd_commands.specs.Captured.{ForImage, IfImage, IsPassedOver}
 use Rattle.dvd_top.specs.Laws.{ImageIsMastered, MasteredStreamIsRecovered}
 use Rattle.dvd_top.specs.Promises.{IsStreamOf}
 use Rattle.dvd_commands.proofs.ForRuns.{size_is}
@@ -74,7 +74,7 @@ none_back layout content image steps kind none size (nothing, good) = record {
 
 -- a block is passed over, or holds image sectors
 passed_back : (layout : Layout) (content : Content) (k : ℕ) (entry : BlockPlan) (rows : List (List ℕ)) (marks : List (List Bool)) (image : List ℕ) (steps : List Step) (kind : UnitKind)
-    → length image ≡ 2048 * image_sectors layout content → IsDone content layout k entry rows marks steps kind
+    → length image ≡ 2048 * image_sectors layout content → IfImage (IsImageDone layout k entry rows marks) content steps kind
     → IsImage content ⊎ IsBack image steps kind
 passed_back layout (Image sector) k entry rows marks image steps kind size done = inl tt
 passed_back layout Zero k entry rows marks image steps kind size done = inr (none_back layout Zero image steps kind refl size done)
@@ -89,7 +89,7 @@ block_back : (layout : Layout) (zones : Zones) (cpr : List ℕ) (k : ℕ) (entry
 block_back layout zones cpr k entry image block steps kind stands cpr_size size is does =
     let rows = captured_rows Plain (recording block) in
     let marks = captured_marks Plain (recording block) in
-    let done = done_at (plan_of layout zones) (λ e. IsDone e.content layout k e) Plain k entry stands (recording block) steps kind does in
+    let done = done_at (plan_of layout zones) (ForImage (IsImageDone layout k)) Plain k entry stands (recording block) steps kind does in
     elim (passed_back layout entry.content k entry rows marks image steps kind size done) [
       | inr back ↦ back
       | inl is_image ↦

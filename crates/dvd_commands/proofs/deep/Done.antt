@@ -12,13 +12,13 @@ use Rattle.dvd_loop.specs.Machine.Step.{Write}
 use Rattle.coding.specs.TwoPass.{answers_of}
 use Rattle.dvd_deep.proofs.Readings.{deep-no_cause, deep-once, deep-some}
 use Rattle.dvd_decoding.specs.Causes.{two_pass_cause}
-use Rattle.dvd_commands.specs.Deep.{IsDeepened, IsGivenBack, IsImageRead, IsReadDeep, deep_units, round_told}
+use Rattle.dvd_commands.specs.Deep.{IsDeepened, IsGivenBack, IsImageRead, deep_units, round_told}
 use Rattle.dvd_commands.specs.Inner.Performing.{sectors_out}
 use Rattle.dvd_loop.specs.Laws.{AreTotal}
 use Rattle.dvd_loop.specs.declared.ends.UnitKind.TheVariants.{Good}
 use Rattle.dvd_commands.proofs.CapturedBlocks.{blocks_total}
-use Rattle.dvd_commands.proofs.OneThing.{MayOne, either_is_one, if_image_is_one, entry_is_one, refused_is_one}
-use Rattle.dvd_commands.proofs.SomeThing.{MaySome, if_image_some, entry_some, refused_some, no_closing}
+use Rattle.dvd_commands.proofs.OneThing.{MayOne, either_is_one, image_is_one, refused_is_one}
+use Rattle.dvd_commands.proofs.SomeThing.{MaySome, image_some, refused_some, no_closing}
 
 -- What rounds read of a block is one, and it has no cause.
 module _ (layout : Layout) (k : ℕ) (entry : BlockPlan) (rows : List (List ℕ)) (marks : List (List Bool)) where
@@ -42,8 +42,7 @@ module _ (layout : Layout) (k : ℕ) (entry : BlockPlan) (rows : List (List ℕ)
 -- so what `deep` does for a block is one thing
 pub deepened_is_one : (layout : Layout) (zones : Zones) (form : Form) (k : ℕ) (own : List ℕ) → MayOne (IsDeepened layout zones form k own)
 deepened_is_one layout zones form k =
-    entry_is_one (plan_of layout zones) (λ e. IsReadDeep e.content layout k e)
-    (λ e rows marks size marks_size. if_image_is_one (IsImageRead layout k e rows marks) (image_read_is_one layout k e rows marks) e.content) form k
+    image_is_one (plan_of layout zones) (IsImageRead layout k) (λ e rows marks size marks_size. image_read_is_one layout k e rows marks) form k
 
 -- A captured block has a cause, or rounds give it back.
 module _ (layout : Layout) (k : ℕ) (entry : BlockPlan) (rows : List (List ℕ)) (marks : List (List Bool)) (size : length rows ≡ 208) (marks_size : length marks ≡ 208) where
@@ -63,8 +62,8 @@ module _ (layout : Layout) (k : ℕ) (entry : BlockPlan) (rows : List (List ℕ)
 pub deepened_some : (layout : Layout) (zones : Zones) (form : Form) (k : ℕ) (own : List ℕ) → k < length (plan_of layout zones)
     → MaySome (IsDeepened layout zones form k own)
 deepened_some layout zones form k =
-    entry_some (plan_of layout zones) (λ e. IsReadDeep e.content layout k e)
-    (λ e rows marks size marks_size. if_image_some (IsImageRead layout k e rows marks) (image_read_some layout k e rows marks size marks_size (deep_cause rows marks e) refl) e.content) form k
+    image_some (plan_of layout zones) (IsImageRead layout k)
+    (λ e rows marks size marks_size. image_read_some layout k e rows marks size marks_size (deep_cause rows marks e) refl) form k
 
 -- so its units are total
 pub deep_total : (layout : Layout) (zones : Zones) (form : Form) → AreTotal (deep_units layout zones form)

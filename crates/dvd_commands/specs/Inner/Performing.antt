@@ -44,6 +44,10 @@ pub record EndsCaptured (form : Form) (k : ℕ) (old new : Seen) (end : LoopEnd)
 abbrev pub sectors_out : ℕ → List (List ℕ) → List ℕ
 sectors_out count sectors = flat_map (λ sector. sector) (take count sectors)
 
+-- these bytes are written, and the unit is of this kind
+abbrev pub WritesAlone : List ℕ → UnitKind → List Step → UnitKind → Type 0
+WritesAlone bytes is steps kind = (steps ≡ Write bytes ∷ []) × (kind ≡ is)
+
 -- a line is reported, these bytes are written, and the unit is of this kind
 abbrev pub TellsAndWrites : List ℕ → List ℕ → UnitKind → List Step → UnitKind → Type 0
 TellsAndWrites line bytes is steps kind = (steps ≡ Tell line ∷ Write bytes ∷ []) × (kind ≡ is)

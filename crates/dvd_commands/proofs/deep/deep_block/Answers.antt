@@ -1,47 +1,30 @@
 -- The proof of `deep_block` in src/deep.rt.
-use Rattle.std.proofs.Common.{◌≡◌, ◌∙◌, ◌*◌, inr, ℕ, List, Some, take, ap, subst}
-use Rattle.std.specs.Io.KnownBytes.{Appends}
+use Rattle.std.proofs.Common.{◌≡◌, ◌∙◌, ◌*◌, inr, ℕ, List, Some, take, ap}
 use Rattle.dvd_block.specs.Buffers.{piece_bytes}
 use Rattle.dvd_capture.proofs.WorkParts.{marks-height, rows-height}
 use Rattle.dvd_capture.specs.Works.{marks_of_work, rows_of, sectors_of}
 use Rattle.dvd_deep.specs.Reading.{deep_cause}
 use Rattle.dvd_loop.specs.Streams.{streams}
-use Rattle.dvd_loop.specs.declared.ends.LoopEnd.TheVariants.{WriteFault}
-use Rattle.dvd_loop.proofs.UnitLemmas.{err_is, write_begun, write_done}
-use Rattle.dvd_ports.specs.Whole.{AppendsPrefix}
-use Rattle.dvd_commands.specs.Inner.Performing.{IsFoundBy, IsRefusedFor, sectors_out}
+use Rattle.dvd_commands.specs.Inner.Performing.{IsFoundBy, IsRefusedFor}
 use Rattle.dvd_commands.proofs.deep.Blocks.{found_given, read_given}
 use Rattle.dvd_commands.proofs.EntryBlocks.{an_image, no_image}
 use Rattle.dvd_commands.proofs.recover.Blocks.{refused, same_work}
-use Rattle.dvd_commands.proofs.TwoSteps.{done_as}
+use Rattle.dvd_commands.proofs.TwoSteps.{done_as, write_is}
 use Rattle.dvd_commands.proofs.deep.deep_block.Goals as goal
 
 pub returns-in-Zero : goal.returns-in-Zero
 returns-in-Zero g c = λ source. no_image _ c.args.block.now.entry.now.content c.in-Zero.is _
 
-pub returns-in_err-write_sectors-in-Ok : goal.returns-in_err-write_sectors-in-Ok
-returns-in_err-write_sectors-in-Ok g c = λ source.
+pub returns-in-Ok : goal.returns-in-Ok
+returns-in-Ok g c = λ source.
+    let block = c.args.block.now in
     let work = c.args.work.now in
-    let output = g.K.Sink.seen c.args.out.now in
-    let new_output = g.K.Sink.seen c.write_sectors.new.out in
-    let sectors = sectors_of c.read_block.new.work in
+    let report = g.E.Sink.seen c.args.report.now in
     an_image _ _ _ c.in-Image.is _ _ _
-    (write_begun _ _ _ (read_given c.args.block.now.layout.now c.args.block.now.k c.args.block.now.entry.now (rows_of work) (marks_of_work work) sectors (rows-height work.received) (marks-height work.marks) c.in-Ok.ensures.read)
-    source output new_output (g.E.Sink.seen c.args.report.now) c.from_residual.result (err_is c.from_residual.result WriteFault c.from_residual.ensures.1)
-    (subst (λ n. AppendsPrefix output.bytes new_output.bytes (sectors_out n sectors)) c.image_sectors-count.ensures.value c.in_err-write_sectors-in-Ok.ensures.begun)
-    c.in_err-write_sectors-in-Ok.ensures.cause.failed)
-
-pub returns-in_ok-write_sectors-in-Ok : goal.returns-in_ok-write_sectors-in-Ok
-returns-in_ok-write_sectors-in-Ok g c = λ source.
-    let work = c.args.work.now in
-    let output = g.K.Sink.seen c.args.out.now in
-    let new_output = g.K.Sink.seen c.write_sectors.new.out in
-    let sectors = sectors_of c.read_block.new.work in
-    an_image _ _ _ c.in-Image.is _ _ _
-    (write_done _ _ _ (read_given c.args.block.now.layout.now c.args.block.now.k c.args.block.now.entry.now (rows_of work) (marks_of_work work) sectors (rows-height work.received) (marks-height work.marks) c.in-Ok.ensures.read)
-    source output new_output (g.E.Sink.seen c.args.report.now)
-    (subst (λ n. Appends output.bytes new_output.bytes (sectors_out n sectors)) c.image_sectors-count.ensures.value c.in_ok-write_sectors-in-Ok.ensures.written)
-    c.in_ok-write_sectors-in-Ok.ensures.cause.steady)
+    (write_is _ _ _
+    (read_given block.layout.now block.k block.entry.now (rows_of work) (marks_of_work work) (sectors_of c.read_block.new.work) (rows-height work.received) (marks-height work.marks) c.in-Ok.ensures.read)
+    (streams source (g.K.Sink.seen c.args.out.now) report) (streams source (g.K.Sink.seen c.write_image.new.out) report) c.write_image.result
+    (c.write_image.ensures source report))
 
 pub returns-in-Ok-search_block : goal.returns-in-Ok-search_block
 returns-in-Ok-search_block g c = λ source.

@@ -1,12 +1,13 @@
 -- The proof of `close` of `UnitCommand` for `Assembling` in src/assemble.rt.
-use Rattle.std.proofs.Common.{◌≡◌, ◌∙◌, ◌-◌, [], ◌∷◌, Ok, Err, ap, sym, subst, arith}
+use Rattle.std.proofs.Common.{◌≡◌, ◌∙◌, ◌-◌, [], ◌∷◌, ap, sym, subst, arith}
 use Rattle.dvd_assemble.specs.Shelves.{tables_of}
 use Rattle.dvd_loop.specs.Machine.Step.{Tell}
 use Rattle.dvd_loop.specs.UnitCommand.{AreSteps}
-use Rattle.dvd_loop.specs.declared.ends.LoopEnd.TheVariants.{ReportFault, WriteFault}
-use Rattle.dvd_loop.proofs.UnitLemmas.{err_is, line_begun, step_begun, step_told, step_written, steps_behind_write}
+use Rattle.dvd_loop.specs.declared.ends.LoopEnd.TheVariants.{WriteFault}
+use Rattle.dvd_loop.proofs.UnitLemmas.{err_is, step_begun, step_written, steps_behind_write}
 use Rattle.dvd_commands.specs.Assemble.{placed_line, text_of}
 use Rattle.dvd_commands.proofs.assemble.Frames.{closing_is, closing_of}
+use Rattle.dvd_commands.proofs.TwoSteps.{told_steps}
 use Rattle.dvd_commands.proofs.assemble.AssemblingUnitCommand.close.Goals as goal
 
 pub returns-in_err-write_blocks-clause-closes : goal.returns-in_err-write_blocks-clause-closes
@@ -20,26 +21,15 @@ returns-in_err-write_blocks-clause-closes g c = λ source before number ready.
           (step_begun source _ _ _ (text_of tables) (Tell (placed_line a.placed (a.frames - a.placed)) ∷ []) c.in_err-write_blocks.ensures.begun),
     )
 
-pub returns-in-Ok-clause-closes : goal.returns-in-Ok-clause-closes
-returns-in-Ok-clause-closes g c = λ source before number ready.
+pub returns-clause-closes : goal.returns-clause-closes
+returns-clause-closes g c = λ source before number ready.
     let a = c.args.self.now in
     let tables = tables_of a.shelf.now in
-    let line_is : c.as_slice.result.now ≡ placed_line a.placed (a.frames - a.placed) =
-    c.as_slice.ensures.bytes ∙ c.placed_line-line.ensures ∙ ap (placed_line a.placed) (omega (arith, c.saturating_sub.ensures)) in (
+    let line = placed_line a.placed (a.frames - a.placed) in
+    let line_is : c.as_slice.result.now ≡ line = c.as_slice.ensures.bytes ∙ c.placed_line-line.ensures ∙ ap (placed_line a.placed) (omega (arith, c.saturating_sub.ensures)) in
+    let told = c.line_told.ensures.told _ _ _ c.write_whole.ensures in (
       closing_of tables a.placed a.frames,
       closing_is a.layout a.form before tables a.placed a.frames ready number,
-      steps_behind_write (text_of tables) (Tell (placed_line a.placed (a.frames - a.placed)) ∷ []) _ _ _ {A = Unit {0}} (Ok tt) (step_written source _ _ _ (text_of tables) c.in_ok-write_blocks.ensures.written)
-          (step_told source _ _ _ (placed_line a.placed (a.frames - a.placed)) (rw line_is at c.in-Ok.ensures.written)),
-    )
-
-pub returns-in-Err-clause-closes : goal.returns-in-Err-clause-closes
-returns-in-Err-clause-closes g c = λ source before number ready.
-    let a = c.args.self.now in
-    let tables = tables_of a.shelf.now in
-    let line_is : c.as_slice.result.now ≡ placed_line a.placed (a.frames - a.placed) =
-    c.as_slice.ensures.bytes ∙ c.placed_line-line.ensures ∙ ap (placed_line a.placed) (omega (arith, c.saturating_sub.ensures)) in (
-      closing_of tables a.placed a.frames,
-      closing_is a.layout a.form before tables a.placed a.frames ready number,
-      steps_behind_write (text_of tables) (Tell (placed_line a.placed (a.frames - a.placed)) ∷ []) _ _ _ {A = Unit {0}} (Err ReportFault) (step_written source _ _ _ (text_of tables) c.in_ok-write_blocks.ensures.written)
-          (line_begun source _ _ _ (placed_line a.placed (a.frames - a.placed)) [] (rw line_is at c.in-Err.ensures.begun)),
+      steps_behind_write (text_of tables) (Tell line ∷ []) _ _ _ c.line_told.result (step_written source _ _ _ (text_of tables) c.in_ok-write_blocks.ensures.written)
+          (told_steps source _ _ _ line c.line_told.result (rw line_is at told) c.line_told.ensures.fault),
     )

@@ -1,0 +1,32 @@
+//! What the writes of a unit came to.
+ghost use Rattle.std.specs.Prelude.{◌≡◌, ℕ, IfErr, List};
+ghost use Rattle.dvd_loop.specs.Streams.{streams};
+ghost use Rattle.dvd_loop.specs.UnitCommand.{AreDone};
+ghost use Rattle.dvd_ports.specs.Seen.{Seen};
+ghost use Rattle.dvd_ports.specs.Whole.{IsWritten};
+ghost use Rattle.dvd_commands.specs.Inner.Performing.{WritesAlone};
+
+use dvd_loop::{LoopEnd, Processed, UnitKind};
+use dvd_ports::WriteFault;
+
+/// A unit of this kind, whose write was answered so: its kind, or the fault that ends the loop.
+pub(crate) fn unit_written(answer: Result<(), WriteFault>, kind: UnitKind) -> Processed
+    ensures { (bytes : List ℕ) (source output new_output report : Seen) → IsWritten bytes output new_output answer
+        → AreDone (WritesAlone bytes kind) (streams source output report) (streams source new_output report) result }
+{
+    match answer {
+        Ok(()) => Ok(kind),
+        Err(WriteFault) => Err(LoopEnd::WriteFault),
+    }
+}
+
+/// A line of the report, whose write was answered so: the fault that ends the loop names the report.
+pub(crate) fn line_told(answer: Result<(), WriteFault>) -> Result<(), LoopEnd>
+    ensures told { (line : List ℕ) (old new : Seen) → IsWritten line old new answer → IsWritten line old new result }
+    ensures fault { IfErr result (λ end. end ≡ LoopEnd.ReportFault) }
+{
+    match answer {
+        Ok(()) => Ok(()),
+        Err(WriteFault) => Err(LoopEnd::ReportFault),
+    }
+}
