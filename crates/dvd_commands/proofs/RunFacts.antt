@@ -3,17 +3,17 @@ use Rattle.std.proofs.Common.{◌≡◌, ◌<◌, ℕ, List, All, None, length, 
 use Rattle.dvd_capture.specs.declared.form.Form.{Form}
 use Rattle.dvd_layout.specs.declared.layout.Layout.{Layout}
 use Rattle.dvd_layout.specs.declared.layout.Zones.{Zones}
-use Rattle.dvd_loop.specs.Machine.{IsOutcome, Outcome, Step, Units}
+use Rattle.dvd_loop.specs.Machine.{IsOutcome, Outcome, Step, Units, sized}
 use Rattle.dvd_loop.proofs.Totality.{Exists}
 use Rattle.dvd_commands.specs.Captured.{captured_part}
 use Rattle.dvd_commands.specs.CdMake.{HasAddresses}
 use Rattle.dvd_commands.specs.Commands.{meaning}
 use Rattle.dvd_commands.specs.Meaning.{GoesBy, Meaning, by_layout, by_settings}
 use Rattle.dvd_commands.proofs.FrameBytes.{HasBytes, IsByte}
-use Rattle.dvd_commands.proofs.OneRun.{RunsOnce, one_capture, once_by_layout}
+use Rattle.dvd_commands.proofs.OneRun.{RunsOnce, one_capture, one_run, once_by_layout}
 use Rattle.dvd_commands.proofs.OneThing.{MayOne}
 use Rattle.dvd_commands.proofs.OtherWorkers.{layout_with, set_workers}
-use Rattle.dvd_commands.proofs.SomeRun.{captures_exist, some_by_layout}
+use Rattle.dvd_commands.proofs.SomeRun.{captures_exist, runs_exist, some_by_layout}
 use Rattle.dvd_commands.proofs.SomeThing.{MaySome}
 use Rattle.dvd_words.specs.Settings.{broken_rule}
 use Rattle.dvd_words.specs.declared.table.Command.{Command}
@@ -36,7 +36,7 @@ RunFacts command = MeaningFacts (meaning command) (λ settings. command ≡ CdMa
 
 -- Units by the settings and their layout, of which other workers change none: it is enough to know the runs over those of
 -- any layout.
-pub facts_by_layout : {Needs : Settings → Type 0} (units : Settings → Layout → Units)
+facts_by_layout : {Needs : Settings → Type 0} (units : Settings → Layout → Units)
     → ((workers : ℕ) (settings : Settings) (layout : Layout) (bytes : List ℕ) (outcome : Outcome) → IsOutcome (units settings layout) bytes outcome
     → IsOutcome (units (set_workers workers settings) layout) bytes outcome)
     → ((settings : Settings) (layout : Layout) (bytes : List ℕ) → RunsOnce (IsOutcome (units settings layout) bytes))
@@ -50,17 +50,43 @@ facts_by_layout units alike once some = record {
   valid = λ settings none. none;
 }
 
--- Likewise units by the settings alone.
-pub facts_by_settings : {Needs : Settings → Type 0} (units : Settings → Units)
+-- Units of given sizes, by the settings and their layout: one thing alone, and something, may be done for each and after
+-- all of them.
+pub facts_of_sized : {Needs : Settings → Type 0} (units : Settings → Layout → Units) (size : Settings → Layout → ℕ → ℕ)
+    → ((workers : ℕ) (settings : Settings) (layout : Layout) (bytes : List ℕ) (outcome : Outcome) → IsOutcome (units settings layout) bytes outcome
+    → IsOutcome (units (set_workers workers settings) layout) bytes outcome)
+    → ((settings : Settings) (layout : Layout) (k : ℕ) (own : List ℕ) → (units settings layout).begins k own ≡ sized (size settings layout k) own)
+    → ((settings : Settings) (layout : Layout) (before : List (List ℕ)) (own : List ℕ) → MayOne ((units settings layout).does (length before) before own))
+    → ((settings : Settings) (layout : Layout) (before : List (List ℕ)) (steps others : List Step) → (units settings layout).closes before steps
+    → (units settings layout).closes before others → steps ≡ others)
+    → ((settings : Settings) (layout : Layout) → HasBytes 6 settings.cpr → (before : List (List ℕ)) (own : List ℕ) → length before < (units settings layout).count
+    → HasBytes (size settings layout (length before)) own → MaySome ((units settings layout).does (length before) before own))
+    → ((settings : Settings) (layout : Layout) (before : List (List ℕ)) → length before ≡ (units settings layout).count
+    → (steps : List Step) × (units settings layout).closes before steps)
+    → MeaningFacts (by_layout units) Needs
+facts_of_sized units size alike begins one one_closes some some_closes =
+    facts_by_layout units alike
+    (λ settings layout. one_run (units settings layout) (size settings layout) (begins settings layout) (one settings layout) (one_closes settings layout))
+    (λ settings layout bytes six are.
+    runs_exist (units settings layout) (size settings layout) (begins settings layout) (some settings layout six) (some_closes settings layout) bytes are)
+
+-- Likewise units of given sizes by the settings alone.
+pub facts_by_settings : {Needs : Settings → Type 0} (units : Settings → Units) (size : ℕ)
     → ((workers : ℕ) (settings : Settings) (bytes : List ℕ) (outcome : Outcome) → IsOutcome (units settings) bytes outcome
     → IsOutcome (units (set_workers workers settings)) bytes outcome)
-    → ((settings : Settings) (bytes : List ℕ) → RunsOnce (IsOutcome (units settings) bytes))
-    → ((settings : Settings) (bytes : List ℕ) → All IsByte bytes → Needs settings → Exists (IsOutcome (units settings) bytes))
+    → ((settings : Settings) (k : ℕ) (own : List ℕ) → (units settings).begins k own ≡ sized size own)
+    → ((settings : Settings) (before : List (List ℕ)) (own : List ℕ) → MayOne ((units settings).does (length before) before own))
+    → ((settings : Settings) (before : List (List ℕ)) (steps others : List Step) → (units settings).closes before steps → (units settings).closes before others → steps ≡ others)
+    → ((settings : Settings) → Needs settings → (before : List (List ℕ)) (own : List ℕ) → length before < (units settings).count → HasBytes size own
+    → MaySome ((units settings).does (length before) before own))
+    → ((settings : Settings) (before : List (List ℕ)) → length before ≡ (units settings).count → (steps : List Step) × (units settings).closes before steps)
     → MeaningFacts (by_settings units) Needs
-facts_by_settings units alike once some = record {
-  once = λ settings bytes a b goes others. once settings bytes a b goes.2 others.2;
+facts_by_settings units size alike begins one one_closes some some_closes = record {
+  once = λ settings bytes a b goes others.
+      one_run (units settings) (λ k. size) (begins settings) (one settings) (one_closes settings) bytes a b goes.2 others.2;
   some = λ settings bytes six are none needs.
-      let (outcome, runs, faultless) = some settings bytes are needs in (outcome, (tt, tt, runs), faultless);
+      let (outcome, runs, faultless) = runs_exist (units settings) (λ k. size) (begins settings) (some settings needs) (some_closes settings) bytes are in
+      (outcome, (tt, tt, runs), faultless);
   alike = λ workers settings bytes outcome goes. (tt, tt, alike workers settings bytes outcome goes.2);
   valid = λ settings none. refl;
 }

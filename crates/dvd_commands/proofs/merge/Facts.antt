@@ -5,9 +5,8 @@ use Rattle.dvd_layout.specs.declared.layout.Layout.{Layout}
 use Rattle.dvd_merge.specs.Join.{joined}
 use Rattle.dvd_merge.specs.MarkedText.{marked_text}
 use Rattle.dvd_commands.specs.Merge.{merge_units, tables_in}
-use Rattle.dvd_commands.proofs.OneRun.{one_closing, one_run}
-use Rattle.dvd_commands.proofs.RunFacts.{RunFacts, facts_by_layout}
-use Rattle.dvd_commands.proofs.SomeRun.{runs_exist}
+use Rattle.dvd_commands.proofs.OneRun.{one_closing}
+use Rattle.dvd_commands.proofs.RunFacts.{RunFacts, facts_of_sized}
 use Rattle.dvd_commands.proofs.SomeThing.{no_closing}
 use Rattle.dvd_loop.specs.Machine.{Units}
 use Rattle.dvd_loop.specs.Machine.Step.{Write}
@@ -21,11 +20,7 @@ blocks settings layout = merge_units layout settings.zones settings.form setting
 
 pub facts : RunFacts Merge
 facts =
-    facts_by_layout blocks (λ workers settings layout bytes outcome runs. runs)
-    (λ settings layout.
-    one_run (blocks settings layout) (λ k. settings.captures * block_size settings.form) (λ k own. refl)
-    (λ before own steps others kind other x y. (x.0 ∙ sym y.0, x.1 ∙ sym y.1)) (λ before. one_closing))
-    (λ settings layout bytes six are.
-    runs_exist (blocks settings layout) (λ k. settings.captures * block_size settings.form) (λ k own. refl)
-    (λ before own lt is. (Write (marked_text (joined (tables_in settings.captures settings.form own))) ∷ [], Good, (refl, refl)))
-    (λ before all. no_closing) bytes are)
+    facts_of_sized blocks (λ settings layout k. settings.captures * block_size settings.form) (λ workers settings layout bytes outcome runs. runs) (λ settings layout k own. refl)
+    (λ settings layout before own steps others kind other x y. (x.0 ∙ sym y.0, x.1 ∙ sym y.1)) (λ settings layout before. one_closing)
+    (λ settings layout six before own lt is. (Write (marked_text (joined (tables_in settings.captures settings.form own))) ∷ [], Good, (refl, refl)))
+    (λ settings layout before all. no_closing)
