@@ -1,32 +1,25 @@
 -- The proof of `give_sector` in src/cd_read.rt.
 use Rattle.std.proofs.Common.{◌∙◌, Err, ap}
-use Rattle.std.specs.Prelude.{replicate}
-use Rattle.dvd_loop.specs.declared.ends.UnitKind.TheVariants.{Bad, Good}
 use Rattle.dvd_loop.proofs.UnitLemmas.{err_is}
-use Rattle.dvd_commands.specs.CdLines.{damaged_sector_line}
-use Rattle.dvd_commands.specs.CdRead.{IsSectorRead, user_data}
 use Rattle.dvd_commands.proofs.cd_read.Sectors.{given, refused}
 use Rattle.dvd_commands.proofs.TwoSteps.{line_fails, line_then, write_is}
 use Rattle.dvd_commands.proofs.cd_read.give_sector.Goals as goal
 
 pub returns-in-Ok : goal.returns-in-Ok
 returns-in-Ok g c = λ source.
-    write_is (IsSectorRead c.args.address c.args.k c.args.sector.now) (user_data c.repair.new.sector) Good
-    (given c.args.address c.args.k c.args.sector.now c.repair.new.sector c.in-Ok.ensures.repaired c.in-Ok.ensures.faultless)
+    write_is _ _ _ (given c.args.address c.args.k c.args.sector.now c.repair.new.sector c.in-Ok.ensures.repaired c.in-Ok.ensures.faultless)
     _ _ c.unit_written.result (c.unit_written.ensures _ source _ _ (g.E.Sink.seen c.args.report.now) c.write_whole.ensures)
 
 pub returns-in_err-line_told-in-Err : goal.returns-in_err-line_told-in-Err
 returns-in_err-line_told-in-Err g c = λ source.
     let line_is = c.as_slice.ensures.bytes ∙ c.damaged_sector_line.ensures in
     let told = c.in_err-line_told-in-Err.ensures.told _ _ _ c.write_whole-in-Err.ensures in
-    line_fails (IsSectorRead c.args.address c.args.k c.args.sector.now) (damaged_sector_line c.args.k c.in-Err.cause) (replicate 2048 0) Bad
-    (refused c.args.address c.args.k c.args.sector.now c.in-Err.cause c.in-Err.ensures.cause)
+    line_fails _ _ _ _ (refused c.args.address c.args.k c.args.sector.now c.in-Err.cause c.in-Err.ensures.cause)
     source _ _ _ _ (err_is _ _ c.from_residual.ensures.1 ∙ ap Err c.in_err-line_told-in-Err.ensures.fault) (rw line_is at told.begun) told.cause.failed
 
 pub returns-in_ok-line_told-in-Err : goal.returns-in_ok-line_told-in-Err
 returns-in_ok-line_told-in-Err g c = λ source.
     let line_is = c.as_slice.ensures.bytes ∙ c.damaged_sector_line.ensures in
     let told = c.in_ok-line_told-in-Err.ensures.told _ _ _ c.write_whole-in-Err.ensures in
-    line_then (IsSectorRead c.args.address c.args.k c.args.sector.now) (damaged_sector_line c.args.k c.in-Err.cause) (replicate 2048 0) Bad
-    (refused c.args.address c.args.k c.args.sector.now c.in-Err.cause c.in-Err.ensures.cause)
+    line_then _ _ _ _ (refused c.args.address c.args.k c.args.sector.now c.in-Err.cause c.in-Err.ensures.cause)
     source _ _ _ _ (rw line_is at told.written) told.cause.steady _ (c.unit_written-in-Err.ensures _ source _ _ _ c.write_whole-in-Err-2.ensures)

@@ -2,7 +2,7 @@
 use Rattle.std.proofs.Common.{◌≡◌, ◌∙◌, ◌*◌, inr, ℕ, List, Some, take, ap}
 use Rattle.dvd_block.specs.Buffers.{piece_bytes}
 use Rattle.dvd_capture.proofs.WorkParts.{marks-height, rows-height}
-use Rattle.dvd_capture.specs.Works.{marks_of_work, rows_of, sectors_of}
+use Rattle.dvd_capture.specs.Works.{marks_of_work, rows_of}
 use Rattle.dvd_deep.specs.Reading.{deep_cause}
 use Rattle.dvd_loop.specs.Streams.{streams}
 use Rattle.dvd_commands.specs.Inner.Performing.{IsFoundBy, IsRefusedFor}
@@ -17,14 +17,10 @@ returns-in-Zero g c = λ source. no_image _ c.args.block.now.entry.now.content c
 
 pub returns-in-Ok : goal.returns-in-Ok
 returns-in-Ok g c = λ source.
-    let block = c.args.block.now in
     let work = c.args.work.now in
-    let report = g.E.Sink.seen c.args.report.now in
     an_image _ _ _ c.in-Image.is _ _ _
-    (write_is _ _ _
-    (read_given block.layout.now block.k block.entry.now (rows_of work) (marks_of_work work) (sectors_of c.read_block.new.work) (rows-height work.received) (marks-height work.marks) c.in-Ok.ensures.read)
-    (streams source (g.K.Sink.seen c.args.out.now) report) (streams source (g.K.Sink.seen c.write_image.new.out) report) c.write_image.result
-    (c.write_image.ensures source report))
+    (write_is _ _ _ (read_given _ _ _ _ _ _ (rows-height work.received) (marks-height work.marks) c.in-Ok.ensures.read)
+    _ _ c.write_image.result (c.write_image.ensures source (g.E.Sink.seen c.args.report.now)))
 
 pub returns-in-Ok-search_block : goal.returns-in-Ok-search_block
 returns-in-Ok-search_block g c = λ source.

@@ -1,6 +1,6 @@
 -- The proof of `recover_block` in src/recover.rt.
 use Rattle.std.proofs.Common.{inr}
-use Rattle.dvd_capture.specs.Works.{marks_of_work, rows_of, sectors_of}
+use Rattle.dvd_capture.specs.Works.{marks_of_work, rows_of}
 use Rattle.dvd_loop.specs.Streams.{streams}
 use Rattle.dvd_commands.specs.Inner.Performing.{IsRefusedFor}
 use Rattle.dvd_commands.proofs.EntryBlocks.{an_image, no_image}
@@ -13,14 +13,8 @@ returns-in-Zero g c = λ source. no_image _ c.args.block.now.entry.now.content c
 
 pub returns-in-Ok : goal.returns-in-Ok
 returns-in-Ok g c = λ source.
-    let block = c.args.block.now in
-    let work = c.args.work.now in
-    let report = g.E.Sink.seen c.args.report.now in
     an_image _ _ _ c.in-Image.is _ _ _
-    (write_is _ _ _
-    (given block.layout.now block.k block.entry.now (rows_of work) (marks_of_work work) (sectors_of c.read_by.new.work) c.in-Ok.ensures.read)
-    (streams source (g.K.Sink.seen c.args.out.now) report) (streams source (g.K.Sink.seen c.write_image.new.out) report) c.write_image.result
-    (c.write_image.ensures source report))
+    (write_is _ _ _ (given _ _ _ _ _ _ c.in-Ok.ensures.read) _ _ c.write_image.result (c.write_image.ensures source (g.E.Sink.seen c.args.report.now)))
 
 pub returns-in-Err : goal.returns-in-Err
 returns-in-Err g c = λ source.

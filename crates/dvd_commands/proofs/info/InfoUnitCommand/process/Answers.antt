@@ -1,8 +1,6 @@
 -- The proof of `kind` of `UnitCommand` for `Info` in src/info.rt.
 use Rattle.std.proofs.Common.{refl}
-use Rattle.dvd_layout.specs.Plan.{lead_in_blocks}
 use Rattle.dvd_loop.proofs.UnitLemmas.{err_is}
-use Rattle.dvd_commands.specs.Info.{IsAsked}
 use Rattle.dvd_commands.proofs.CapturedUnits.{captured_done, captured_short}
 use Rattle.dvd_commands.proofs.EntryBlocks.{done_by_entry}
 use Rattle.dvd_commands.proofs.PlanEntries.{lead_in-has_numbers}
@@ -20,8 +18,7 @@ ask_block-requires-clause-numbers g c =
 
 pub returns-clause-processed : goal.returns-clause-processed
 returns-clause-processed g c = λ before number ready.
-    let m = c.args.self.now in
     let fetched = c.in_ok-fetch_block.ensures.full in
-    captured_done _ m.form (λ k own. refl) c.args.k before number _ _ _ _ _ _ _ fetched (c.in_ok-fetch_block.ensures.causes _ _) _ _ _
-    (done_by_entry (lead_in_blocks m.initial) (λ e. IsAsked e.content e) m.form c.args.k c.lead_in_block-entry.result c.lead_in_block-entry.ensures fetched.bytes _ _ fetched.rows_are fetched.marks_are
+    captured_done _ _ (λ k own. refl) c.args.k before number _ _ _ _ _ _ _ fetched (c.in_ok-fetch_block.ensures.causes _ _) _ _ _
+    (done_by_entry _ _ _ _ _ c.lead_in_block-entry.ensures _ _ _ fetched.rows_are fetched.marks_are
     _ _ _ (c.ask_block.ensures (g.S.Source.seen c.fetch_block.new.src) (g.E.Sink.seen c.args._report.now))) tt

@@ -1,9 +1,6 @@
 -- The proof of `kind` of `PlainCommand` for `Recover` in src/recover.rt.
 use Rattle.std.proofs.Common.{refl}
-use Rattle.dvd_layout.specs.Plan.{plan_of}
 use Rattle.dvd_loop.proofs.UnitLemmas.{err_is}
-use Rattle.dvd_commands.specs.Captured.{ForImage}
-use Rattle.dvd_commands.specs.Recover.{IsImageDone}
 use Rattle.dvd_commands.proofs.CapturedUnits.{captured_done, captured_short}
 use Rattle.dvd_commands.proofs.EntryBlocks.{done_by_entry}
 use Rattle.dvd_commands.proofs.recover.RecoverPlainCommand.process.Goals as goal
@@ -15,9 +12,7 @@ returns-in_err-fetch_block-clause-processed g c = λ before number.
 
 pub returns-clause-processed : goal.returns-clause-processed
 returns-clause-processed g c = λ before number.
-    let m = c.args.self.now in
     let fetched = c.in_ok-fetch_block.ensures.full in
-    let stands = c.at-entry.ensures.stands in
-    captured_done _ m.form (λ k own. refl) c.args.k before number _ _ _ _ _ _ _ fetched (c.in_ok-fetch_block.ensures.causes _ _) _ _ _
-    (done_by_entry (plan_of m.blocks.layout m.blocks.zones) (ForImage (IsImageDone m.blocks.layout c.args.k)) m.form c.args.k c.at-entry.result stands fetched.bytes _ _ fetched.rows_are fetched.marks_are
+    captured_done _ _ (λ k own. refl) c.args.k before number _ _ _ _ _ _ _ fetched (c.in_ok-fetch_block.ensures.causes _ _) _ _ _
+    (done_by_entry _ _ _ _ _ c.at-entry.ensures.stands _ _ _ fetched.rows_are fetched.marks_are
     _ _ _ (c.recover_block.ensures (g.S.Source.seen c.fetch_block.new.src))) tt
