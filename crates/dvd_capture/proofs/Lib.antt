@@ -4,6 +4,7 @@ pub mod Bound
 pub mod ClearMarks
 pub mod Columns
 pub mod Mapped
+pub mod MarkCounts
 pub mod MarkLists
 pub mod FlatRows
 pub mod WorkParts

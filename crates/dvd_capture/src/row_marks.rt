@@ -2,6 +2,7 @@
 //! bytes, and the methods say the same of the list of 182 marks that a contract has.
 ghost use Rattle.std.specs.Prelude.{◌≡◌, ◌↔◌, ℕ, ◌+◌, ◌-◌, ◌<◌, ◌≤◌, ◌≢◌, ◌==◌, false, length, IsTrue, replicate, slice_index, slice_index_or, slice_set};
 ghost use Rattle.std.specs.Int.{bit_at};
+ghost use Rattle.coding.specs.Filling.{marked};
 ghost use Rattle.dvd_capture.specs.Captured.{marks_in, record_size};
 ghost use Rattle.dvd_capture.specs.Inner.Listing.{IsFound};
 ghost use Rattle.dvd_capture.specs.MarkBits.{is_set, mark_at, marks_of};
@@ -38,6 +39,13 @@ impl RowMarks {
         ensures { IsTrue result ↔ (marks_of_row self.now ≡ replicate 182 false) }
     {
         has_no_mark(&self.bits)
+    }
+
+    /// How many places are marked.
+    pub fn count(&self) -> u32
+        ensures { result ≡ marked (marks_of_row self.now) }
+    {
+        count_marks(&self.bits)
     }
 
     /// The mark of place `j`.
@@ -101,6 +109,19 @@ fn has_no_mark(row: &[u8; 23]) -> bool
 {
     // The last byte has six places, in its upper bits.
     row[..22] == [0; 22] && row[22] < 4
+}
+
+// How many places have a mark; the two spare bits don't count.
+fn count_marks(bits: &[u8]) -> u32
+    requires { length bits.now ≡ 23 }
+    ensures { result ≡ marked (marks_of bits.now) }
+{
+    let mut count = 0;
+    for k in 0..22usize {
+        count += bits[k].count_ones();
+    }
+    // The last byte has six places, in its upper bits.
+    count + (bits[22] / 4).count_ones()
 }
 
 // The mark of place `j` in a row of mark bits.

@@ -8,7 +8,7 @@ ghost use Rattle.coding.specs.Field.{alpha, power};
 ghost use Rattle.coding.specs.Words.{value};
 ghost use Rattle.rs_code.specs.Syndromes.{syndromes_of};
 ghost use Rattle.coding.specs.Filling.{marked};
-ghost use Rattle.dvd_capture.specs.Answers.{IsAnswer};
+ghost use Rattle.dvd_capture.specs.Answers.{IsAnswer, marks_line};
 ghost use Rattle.dvd_capture.specs.Parts.{marks_rows, received_rows};
 ghost use Rattle.coding.specs.Nearest.{vanishes_at_all};
 ghost use Rattle.coding.specs.TwoPass.{failed_of};
@@ -26,7 +26,10 @@ use std::simd::prelude::*;
 // More failed rows than this leave no column an answer. Each costs one of the sixteen bytes of outer parity.
 pub(crate) const MOST_FAILED: u16 = 16;
 
-// For fewer rows than this, to decode each takes less time than to propose for 32. Any number gives the same answers.
+// A row with more marks than this is lost: each costs one of the ten bytes of inner parity.
+const MOST_MARKED: u32 = 10;
+
+// For fewer rows than this, to decode each takes less time than to propose for 32.
 const FEWEST_PROPOSED: u16 = 4;
 
 // What is answered of a codeword without marks.
@@ -51,8 +54,44 @@ pub fn answer_rows(
     for group in 0..piece.len().div_ceil(32) {
         let at = 32 * group;
         let end = piece.len().min(at + 32);
-        answer_group(code, received, marks, start + at, &mut piece[at..end]);
+        let rows = &mut piece[at..end];
+        // Where all are lost, their values aren't needed.
+        if !answer_lost_rows(received, marks, start + at, rows) {
+            answer_group(code, received, marks, start + at, rows);
+        }
     }
+}
+
+// Answers rows until one isn't lost. Answers whether all are.
+fn answer_lost_rows(
+    received: &Received,
+    marks: &Marks,
+    start: usize,
+    piece: &mut [AnswerRow],
+) -> bool
+    requires rows { start + length piece.old ≤ 208 }
+    ensures size { length piece.new ≡ length piece.old }
+    ensures answers { IsTrue result → AreAnswersFrom (received_rows received.now) (marks_rows marks.now) start piece.new }
+{
+    for (k, answer) in piece.iter_mut().enumerate() {
+        let i = start + k;
+        if !answer_lost(received.row(i), marks, i, answer) {
+            return false;
+        }
+    }
+    true
+}
+
+// Answers row `i` if it is lost: no codeword is near it, whatever its bytes are. Answers whether it is.
+fn answer_lost(row: &[u8; 182], marks: &Marks, i: usize, answer: &mut AnswerRow) -> bool
+    requires { i < 208 }
+    ensures { IsTrue result → IsAnswer row.now (marks_line (marks_rows marks.now) i) answer.new }
+{
+    let is_lost = marks.count(i) > MOST_MARKED;
+    if is_lost {
+        answer.set(row, None);
+    }
+    is_lost
 }
 
 // Answers at most 32 rows. The values of all are found at once, and show which rows are codewords.
@@ -84,8 +123,10 @@ fn answer_group(
         // Marked rows go by themselves: each has its own marks, which are counted even where it is a codeword. All 182
         // flags are set anew.
         if !marks.is_clear(i) {
-            marks.row(i, &mut row_marks);
-            answer_marked(code, row, &row_marks, lane_of(&values, i - top), answer);
+            if !answer_lost(row, marks, i, answer) {
+                marks.row(i, &mut row_marks);
+                answer_marked(code, row, &row_marks, lane_of(&values, i - top), answer);
+            }
         } else if wrong[i - top] == 0 {
             answer_codeword(row, answer);
         } else {
