@@ -58,12 +58,13 @@ impl<const N: usize> Erasures<N> {
         requires short { N ≤ 255 }
         ensures { MatchOption result (most < marked marks.now) (λ erasures. (marked marks.now ≤ most) × (erasures.marks ≡ marks.now)) }
     {
-        let points = marked_points(marks, most)?;
+        let mut places = [0; 256];
+        let points = marked_points(marks, most, &mut places)?;
         Some(Erasures {
             marks: *marks,
             points,
             inverse: None,
-            places: [0; 256],
+            places,
         })
     }
 
@@ -74,11 +75,9 @@ impl<const N: usize> Erasures<N> {
         requires short { N ≤ 255 }
         ensures { MatchOption result (most < marked marks.now) (λ erasures. (marked marks.now ≤ most) × (erasures.marks ≡ marks.now)) }
     {
-        let points = marked_points(marks, most)?;
-        let inverse = inverse_of(&points);
-        // Once more, though the points came of them: `new` keeps no places, and here this is done once for many words.
         let mut places = [0; 256];
-        gather_places(marks, &mut places);
+        let points = marked_points(marks, most, &mut places)?;
+        let inverse = inverse_of(&points);
         Some(Erasures {
             marks: *marks,
             points,
@@ -114,11 +113,13 @@ fn inverse_of(points: &[u8]) -> Option<Inverse>
     Some(Inverse::new(ArrayVec::try_from(points).unwrap()))
 }
 
-// The powers of alpha that the bytes at the marked places are at, unless more than `most` places are marked.
-fn marked_points(marks: &[bool], most: usize) -> Option<ArrayVec<u8, 32>>
+// The powers of alpha that the bytes at the marked places are at, unless more than `most` places are marked. Also writes
+// these places in order.
+fn marked_points(marks: &[bool], most: usize, places: &mut [u8; 256]) -> Option<ArrayVec<u8, 32>>
     requires room { most ≤ 32 }
     requires short { length marks.now ≤ 255 }
-    ensures { MatchOption result (most < marked marks.now) (λ points. (marked marks.now ≤ most) × (points.items ≡ picked marks.now (points_of (length marks.now)))) }
+    ensures points { MatchOption result (most < marked marks.now) (λ points. (marked marks.now ≤ most) × (points.items ≡ picked marks.now (points_of (length marks.now)))) }
+    ensures places { IfSome result (λ points. ArePlaces marks.now (length points.items) places.new) }
 {
     // They are counted before they are gathered, so that too many cost no more.
     let count = usize::from(count_marks(marks));
@@ -130,8 +131,7 @@ fn marked_points(marks: &[bool], most: usize) -> Option<ArrayVec<u8, 32>>
     if count == 0 {
         return Some(points);
     }
-    let mut places = [0; 256];
-    gather_places(marks, &mut places);
+    gather_places(marks, places);
     for place in &places[..count] {
         points.push(point_of(marks.len(), usize::from(*place)));
     }

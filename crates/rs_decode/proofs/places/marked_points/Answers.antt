@@ -6,6 +6,7 @@ use Rattle.coding.specs.Filling.{marked}
 use Rattle.rs_code.specs.Inner.PowerSums.{points_of}
 use Rattle.rs_code.proofs.PowerSums.{length-points_of}
 use Rattle.rs_decode.specs.Inner.Places.{ArePlaces, picked}
+use Rattle.rs_decode.proofs.Fillings.{points-few}
 use Rattle.rs_decode.proofs.Marks.{length-picked, picked-none, point-next}
 use Rattle.rs_decode.proofs.places.marked_points.Goals as goal
 use Rattle.rs_decode.proofs.places.marked_points.Goals.{After-from}
@@ -27,12 +28,17 @@ next c =
 pub point_of-requires-clause-inside : goal.point_of-requires-clause-inside
 point_of-requires-clause-inside c = (next c).0
 
-pub returns-then-count-eq0 : goal.returns-then-count-eq0
-returns-then-count-eq0 c =
+pub returns-then-count-eq0-clause-points : goal.returns-then-count-eq0-clause-points
+returns-then-count-eq0-clause-points c =
     let marks = c.args.marks.now in
     let none : marked marks ≡ 0 = omega (arith, c.from-count.ensures, c.count_marks.ensures, c.if-count-eq0.true) in
     let empty : c.new-points.result.items ≡ [] = search rules in
     (omega (arith, none), empty ∙ sym (picked-none marks (points_of (length marks)) (length-points_of (length marks)) none))
+
+pub returns-then-count-eq0-clause-places : goal.returns-then-count-eq0-clause-places
+returns-then-count-eq0-clause-places c = λ i below.
+    let empty : c.new-points.result.items ≡ [] = search rules in
+    absurd (omega (arith, below, ap length empty))
 
 pub loop-place-preserved : goal.loop-place-preserved
 loop-place-preserved c =
@@ -40,8 +46,8 @@ loop-place-preserved c =
     let before = take c.loop-place.place-index (picked c.args.marks.now (points_of (length c.args.marks.now))) in
     c.push.ensures.items ∙ ap (λ xs. xs ++ c.point_of.result ∷ []) c.loop-place.invariant ∙ ap (λ x. before ++ x ∷ []) c.point_of.ensures ∙ sym (next here).1
 
-pub returns : goal.returns
-returns c =
+pub returns-clause-points : goal.returns-clause-points
+returns-clause-points c =
     let marks = c.args.marks.now in
     let count = c.from-count.result in
     let counted = c.from-count.ensures ∙ c.count_marks.ensures in
@@ -50,3 +56,7 @@ returns c =
       c.loop-place.invariant ∙ take_all c.loop-place.place-index (picked marks (points_of (length marks)))
           (omega (arith, long, c.loop-place-test.false, counted, c.if-count-most.false, c.requires.room, length-picked marks (points_of (length marks)) (length-points_of (length marks)))),
     )
+
+pub returns-clause-places : goal.returns-clause-places
+returns-clause-places c = λ i below.
+    c.gather_places.ensures i (omega (arith, below, points-few c.args.marks.now c.loop-place.points.items (returns-clause-points c).1))
