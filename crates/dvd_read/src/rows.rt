@@ -75,7 +75,8 @@ fn answer_lost_rows(
 {
     for (k, answer) in piece.iter_mut().enumerate() {
         let i = start + k;
-        if !answer_lost(received.row(i), marks, i, answer) {
+        // Most groups begin with a row without marks, which needn't be counted.
+        if marks.is_clear(i) || !answer_lost(received.row(i), marks, i, answer) {
             return false;
         }
     }
