@@ -27,7 +27,7 @@ ghost use Rattle.dvd_words.specs.Settings.{IsLayoutOf};
 
 use crate::refusal::Refusal;
 use crate::start::Start;
-use crate::unit::line_told;
+use crate::unit::line_reported;
 use dvd_assemble::{FrameWork, Shelf, fetch_frame};
 use dvd_capture::{FetchAnswer, Form};
 use dvd_layout::{Layout, Zones};
@@ -90,7 +90,7 @@ impl<'a, S: Source, K: Sink, E: Sink> UnitCommand<S, K, E> for Assembling<'a> {
         // No more are placed than there are frames. But the trait lets `close` be called at any time, so the difference
         // has to have a value always.
         let line = placed_line(self.placed, self.frames.saturating_sub(self.placed));
-        line_told(write_whole(report, line.as_slice()))
+        line_reported(write_whole(report, line.as_slice()))
     }
 }
 

@@ -1,4 +1,9 @@
 //! Captured blocks, as the commands that read a stream of them use them.
+//! `Work` is the memory of one: its received rows and marks, what two passes made of them, and its sixteen sectors. Its
+//! stage says what of these there is: `HasBlock`, a block was received; `HasAnswers`, its rows were decoded too.
+//! `HasNumbers` says that the numbers of an entry's sixteen sectors have 24 bits, as those of every plan have.
+//! `AreDone` says which steps, writes and lines, are done for a unit; where a call fails, only a first part of them is.
+//! Clauses `causes` say by the counts of a stream that the call that failed, where one did, was its last.
 ghost use Rattle.std.specs.Prelude.{IfErr, OnOk};
 ghost use Rattle.dvd_capture.specs.Captured.{Captures};
 ghost use Rattle.dvd_capture.specs.Rule.{HasAnswers, HasBlock};
@@ -10,7 +15,7 @@ ghost use Rattle.dvd_ports.specs.Seen.{Seen};
 ghost use Rattle.dvd_ports.specs.Whole.{IsWritten};
 ghost use Rattle.dvd_commands.specs.Inner.Performing.{EndsCaptured, IsRefusedFor, WritesAlone, sectors_out};
 
-use crate::unit::{line_told, unit_written};
+use crate::unit::{line_reported, unit_written};
 use dvd_capture::{FetchAnswer, Form, Work, fetch};
 use dvd_layout::{BlockPlan, Layout};
 use dvd_loop::{LoopEnd, Processed, UnitKind};
@@ -67,12 +72,12 @@ pub(crate) fn refuse_block<K: Sink, E: Sink>(
         (streams source (K.seen out.old) (E.seen report.old)) (streams source (K.seen out.new) (E.seen report.new)) result }
 {
     let saved = salvage(work, block.entry);
-    line_told(write_cause(u64::from(block.k), block.entry, cause, saved, report))?;
+    line_reported(write_cause(u64::from(block.k), block.entry, cause, saved, report))?;
     write_image(block, work, UnitKind::Bad, out)
 }
 
-/// Writes the image sectors of a block, which is then of this kind.
-/// Only those of the image: the last block of a layer may have fewer than sixteen.
+/// Writes the image sectors of a block, which is then of this kind. The image's last block may have fewer than sixteen:
+/// what fills that block up isn't written.
 pub(crate) fn write_image<K: Sink>(
     block: &Planned<'_>,
     work: &Work,

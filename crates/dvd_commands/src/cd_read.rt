@@ -12,7 +12,7 @@ ghost use Rattle.dvd_commands.specs.CdMake.{HasAddresses};
 ghost use Rattle.dvd_commands.specs.CdRead.{IsSectorRead, cdread_units};
 
 use crate::cd_line::damaged_sector_line;
-use crate::unit::{line_told, unit_written};
+use crate::unit::{line_reported, unit_written};
 use cd_sector::repair;
 use dvd_loop::{LoopEnd, PlainCommand, Processed, UnitKind, read_unit, run_plain};
 use dvd_ports::{Sink, Source, write_whole};
@@ -88,9 +88,10 @@ fn give_sector<K: Sink, E: Sink>(
         (streams source (K.seen out.old) (E.seen report.old)) (streams source (K.seen out.new) (E.seen report.new)) result }
 {
     match repair(sector, address) {
+        // How many bytes were repaired isn't reported: a sector that is given has no line.
         Ok(_) => unit_written(write_whole(out, &sector[16..2064]), UnitKind::Good),
         Err(cause) => {
-            line_told(write_whole(report, damaged_sector_line(k, cause).as_slice()))?;
+            line_reported(write_whole(report, damaged_sector_line(k, cause).as_slice()))?;
             unit_written(write_whole(out, &[0; 2048]), UnitKind::Bad)
         }
     }

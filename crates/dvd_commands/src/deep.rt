@@ -37,7 +37,7 @@ use crate::captured::{Planned, fetch_block, refuse_block, write_each, write_imag
 use crate::opening::{layout_from_arguments, open_blocks};
 use crate::refusal::Refusal;
 use crate::start::Start;
-use crate::unit::{line_told, unit_written};
+use crate::unit::{line_reported, unit_written};
 use dvd_block::Piece;
 use dvd_capture::{Form, Work};
 use dvd_deep::Deep;
@@ -179,7 +179,9 @@ fn deep_block<K: Sink, E: Sink>(
         Content::Zero | Content::Reference | Content::Control => return Ok(UnitKind::Good),
     }
     match read_block(work, entry) {
+        // What was fixed isn't reported: a block that two passes determine has no line.
         Ok(_) => write_image(block, work, UnitKind::Good, out),
+        // Rounds are for refused blocks alone: one that two passes determine is given as `recover` gives it.
         Err(cause) => match search_block(entry, cause, deep, work, piece) {
             Ok(round) => {
                 let count = block.layout.image_sectors(entry.content);
@@ -231,6 +233,6 @@ fn give_back<K: Sink, E: Sink>(
     ensures { (source : Seen) → AreDone (TellsAndWrites (round_line k entry.now round) sectors.now Good)
         (streams source (K.seen out.old) (E.seen report.old)) (streams source (K.seen out.new) (E.seen report.new)) result }
 {
-    line_told(write_round(u64::from(k), entry, round, report))?;
+    line_reported(write_round(u64::from(k), entry, round, report))?;
     unit_written(write_each(sectors, out), UnitKind::Good)
 }

@@ -184,6 +184,7 @@ fn recover_block<F: Fn(&mut Work, &BlockPlan) -> Result<Fixed, Cause>, K: Sink, 
         Content::Zero | Content::Reference | Content::Control => return Ok(UnitKind::Good),
     }
     match read_by(read, work, block.entry) {
+        // What was fixed isn't reported: an accepted block has no line here, and `survey` counts rows.
         Ok(_) => write_image(block, work, UnitKind::Good, out),
         Err(cause) => refuse_block(block, &cause, work, out, report),
     }

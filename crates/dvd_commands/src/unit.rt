@@ -20,9 +20,10 @@ pub(crate) fn unit_written(answer: Result<(), WriteFault>, kind: UnitKind) -> Pr
     }
 }
 
-/// A line of the report, whose write was answered so: the fault that ends the loop names the report.
-pub(crate) fn line_told(answer: Result<(), WriteFault>) -> Result<(), LoopEnd>
-    ensures told { (line : List ℕ) (old new : Seen) → IsWritten line old new answer → IsWritten line old new result }
+/// A line of the report, whose write was answered so: the fault that ends the loop names the report. So callers don't
+/// use `?` on the write itself, which would make a fault of the output of it.
+pub(crate) fn line_reported(answer: Result<(), WriteFault>) -> Result<(), LoopEnd>
+    ensures written { (line : List ℕ) (old new : Seen) → IsWritten line old new answer → IsWritten line old new result }
     ensures fault { IfErr result (λ end. end ≡ LoopEnd.ReportFault) }
 {
     match answer {

@@ -29,7 +29,7 @@ pub(crate) const MOST_FAILED: u16 = 16;
 // A row with more marks than this is lost: each costs one of the ten bytes of inner parity.
 const MOST_MARKED: u32 = 10;
 
-// For fewer rows than this, to decode each takes less time than to propose for 32.
+// For fewer rows than this, to decode each takes less time than to propose for 32. Any number gives the same answers.
 const FEWEST_PROPOSED: u16 = 4;
 
 // What is answered of a codeword without marks.

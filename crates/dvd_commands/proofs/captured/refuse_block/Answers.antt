@@ -10,16 +10,16 @@ use Rattle.dvd_commands.proofs.captured.refuse_block.Goals as goal
 pub write_cause-requires-clause-frames : goal.write_cause-requires-clause-frames
 write_cause-requires-clause-frames g c = subst (λ n. n ≤ 16) (sym c.salvage-saved.ensures.saved) (few_saved c.args.work.now c.args.block.now.entry.now)
 
-pub returns-in_err-line_told : goal.returns-in_err-line_told
-returns-in_err-line_told g c = λ source.
+pub returns-in_err-line_reported : goal.returns-in_err-line_reported
+returns-in_err-line_reported g c = λ source.
     let line_is = line_same _ _ c.args.block.now.entry.now c.args.cause.now _ _ c.from.ensures c.salvage-saved.ensures.saved in
-    let told = c.in_err-line_told.ensures.told _ _ _ c.write_cause.ensures in
-    line_fails _ _ _ _ (refl, refl) source _ _ _ _ (err_is _ _ c.from_residual.ensures.1 ∙ ap Err c.in_err-line_told.ensures.fault) (rw line_is at told.begun) told.cause.failed
+    let told = c.in_err-line_reported.ensures.written _ _ _ c.write_cause.ensures in
+    line_fails _ _ _ _ (refl, refl) source _ _ _ _ (err_is _ _ c.from_residual.ensures.1 ∙ ap Err c.in_err-line_reported.ensures.fault) (rw line_is at told.begun) told.cause.failed
 
 pub returns : goal.returns
 returns g c = λ source.
     let block = c.args.block.now in
     let line_is = line_same _ _ block.entry.now c.args.cause.now _ _ c.from.ensures c.salvage-saved.ensures.saved in
     let out_is = ap (sectors_out (image_sectors block.layout.now block.entry.now.content)) c.salvage-saved.ensures.out in
-    let told = c.in_ok-line_told.ensures.told _ _ _ c.write_cause.ensures in
+    let told = c.in_ok-line_reported.ensures.written _ _ _ c.write_cause.ensures in
     line_then _ _ _ _ (refl, refl) source _ _ _ _ (rw line_is at told.written) told.cause.steady _ (rw out_is at c.write_image.ensures source _)

@@ -27,9 +27,9 @@ returns-clause-closes g c = λ source before number ready.
     let tables = tables_of a.shelf.now in
     let line = placed_line a.placed (a.frames - a.placed) in
     let line_is : c.as_slice.result.now ≡ line = c.as_slice.ensures.bytes ∙ c.placed_line-line.ensures ∙ ap (placed_line a.placed) (omega (arith, c.saturating_sub.ensures)) in
-    let told = c.line_told.ensures.told _ _ _ c.write_whole.ensures in (
+    let told = c.line_reported.ensures.written _ _ _ c.write_whole.ensures in (
       closing_of tables a.placed a.frames,
       closing_is a.layout a.form before tables a.placed a.frames ready number,
-      steps_behind_write (text_of tables) (Tell line ∷ []) _ _ _ c.line_told.result (step_written source _ _ _ (text_of tables) c.in_ok-write_blocks.ensures.written)
-          (told_steps source _ _ _ line c.line_told.result (rw line_is at told) c.line_told.ensures.fault),
+      steps_behind_write (text_of tables) (Tell line ∷ []) _ _ _ c.line_reported.result (step_written source _ _ _ (text_of tables) c.in_ok-write_blocks.ensures.written)
+          (told_steps source _ _ _ line c.line_reported.result (rw line_is at told) c.line_reported.ensures.fault),
     )
