@@ -6,4 +6,4 @@ pub use crate::frames::{FrameSource, sectors_of_block};
 pub use crate::kept::are_kept;
 pub use crate::passes::end_passes;
 pub use crate::rescue::salvage_frame;
-pub use crate::rows::{answer_rows, are_few, count_failed, mark_failed};
+pub use crate::rows::{answer_rows, are_few, mark_failed};

@@ -10,7 +10,6 @@ ghost use Rattle.rs_code.specs.Syndromes.{syndromes_of};
 ghost use Rattle.coding.specs.Filling.{marked};
 ghost use Rattle.dvd_capture.specs.Answers.{IsAnswer, marks_line};
 ghost use Rattle.dvd_capture.specs.Parts.{marks_rows, received_rows};
-ghost use Rattle.coding.specs.Nearest.{vanishes_at_all};
 ghost use Rattle.coding.specs.TwoPass.{failed_of};
 ghost use Rattle.dvd_read.specs.Parts.{AreAnswersFrom, answer_word};
 
@@ -226,13 +225,6 @@ fn answer_erased(
         Ok(fix) => answer.fix = Some(fix),
         Err(_) => answer.fix = None,
     }
-}
-
-/// Whether a row is a codeword. Nothing calls it now: both passes test 32 rows at once, by their values.
-pub(crate) fn is_codeword(code: &Pi, row: &[u8; 182]) -> bool
-    ensures { result ≡ vanishes_at_all 10 row.now }
-{
-    code.is_codeword(row)
 }
 
 /// Notes which rows failed. They are the marks of all columns. All 208 flags are set anew. It is public, as
