@@ -102,9 +102,9 @@ fn put_peak(page: &mut Page, totals: &Totals)
     page.put(b".</text>\n");
 }
 
-/// Puts what the colours and the marks mean, and ends the picture: nothing comes after it. Its pieces of colour are drawn
-/// by the classes of the picture itself. A page has room for 2,000,000 bytes, and `room` is far from it: how much more is
-/// left than this needs means nothing.
+/// Puts what the colours and the marks mean, and ends the picture: nothing comes after it. Its pieces of colour are
+/// drawn by the classes of the picture itself. A page has room for 2,000,000 bytes, and `room` is far from it: how much
+/// more is left than this needs means nothing.
 pub fn put_legend(page: &mut Page)
     requires room { length page.old ≤ 1940000 }
     ensures bytes { page.new ≡ page.old ++ legend }

@@ -48,8 +48,8 @@ pub fn fixed_end(status: Status, text: &[u8]) -> RunEnd
     RunEnd { status, line }
 }
 
-/// The end of a run with an input, a line of which breaks a rule: `front` names the input, as `map: line `. No line feed
-/// is in the texts that it gets.
+/// The end of a run with an input, a line of which breaks a rule: `front` names the input, as `map: line `. No line
+/// feed is in the texts that it gets.
 pub fn rule_end(front: &[u8], number: u64, cause: &[u8]) -> RunEnd
     requires front { length front.now ≤ 20 }
     requires cause { length cause.now ≤ 20 }

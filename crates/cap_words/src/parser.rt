@@ -9,9 +9,9 @@ use clap::{Arg, ArgAction};
 use dvd_words::with_option;
 use std::alloc::{AllocError, Global};
 
-/// The clap command of a command. Each has its own, so that an option of another one is refused. `true` is an option that
-/// has to be given; the modules of the commands have the defaults of others. Only memory can fail here. `free` says that
-/// clap's rules for it are simple, which `parse_by` requires.
+/// The clap command of a command. Each has its own, so that an option of another one is refused. `true` is an option
+/// that has to be given; the modules of the commands have the defaults of others. Only memory can fail here. `free`
+/// says that clap's rules for it are simple, which `parse_by` requires.
 pub fn parser_for<'a>(alloc: Global, command: Command) -> Result<clap::Command<'a>, AllocError>
     ensures app { IfOk result (λ parser. app_of parser ≡ app_for command) }
     ensures free { is_simple_and_free (app_for command) ≡ true }

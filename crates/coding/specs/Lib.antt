@@ -1,5 +1,6 @@
--- Coding theory and ECC blocks, as definitions alone: bits and their division, the field, its words and codes, erasures, the
--- codeword near a word, distance, rows and columns, the product code, the order of recording, two passes and their bound.
+-- Coding theory and ECC blocks, as definitions alone: bits and their division, the field, its words and codes,
+-- erasures, the codeword near a word, distance, rows and columns, the product code, the order of recording, two passes
+-- and their bound.
 pub mod BitDivision
 pub mod Bits
 pub mod Distance

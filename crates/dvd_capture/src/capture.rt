@@ -73,8 +73,9 @@ fn fetch_parts<S: Source>(
 }
 
 // Reads a block without marks. Its rows come straight into their buffer in the order of recording, since one read can't
-// fill rows that are apart, and are put in the order of the block there. Where not all came, what the rows had before is
-// lost, and nobody may read them: the block's stage is Empty then. The listed form has its rows read here too. The clause
+// fill rows that are apart, and are put in the order of the block there. Where not all came, what the rows had before
+// is lost, and nobody may read them: the block's stage is Empty then. The listed form has its rows read here too. The
+// clause
 // `never` says that BadMarks comes from runs alone.
 pub(crate) fn fetch_plain<S: Source>(
     src: &mut S,

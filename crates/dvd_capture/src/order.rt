@@ -1,5 +1,5 @@
-//! Rows of 182 bytes one after the other, and how the 208 recorded rows of a block come into the order of the block where
-//! they are.
+//! Rows of 182 bytes one after the other, and how the 208 recorded rows of a block come into the order of the block
+//! where they are.
 ghost use Rattle.std.specs.Prelude.{◌≡◌, ℕ, ◌+◌, ◌*◌, ◌<◌, ◌≤◌, length};
 ghost use Rattle.coding.specs.Recording.{record_at};
 ghost use Rattle.dvd_capture.specs.Parts.{row_in};
@@ -10,8 +10,8 @@ const FRAME: usize = 12 * ROW; // the rows of a data frame
 
 const PARITY: usize = 16 * ROW; // the rows of outer parity
 
-/// Puts the recorded rows of a block in the order of the block: the rows of data frame f move up by f rows, since a row of
-/// outer parity is recorded after each frame, and those come last.
+/// Puts the recorded rows of a block in the order of the block: the rows of data frame f move up by f rows, since a row
+/// of outer parity is recorded after each frame, and those come last.
 pub(crate) fn put_in_order(bytes: &mut [u8])
     requires { length bytes.old ≡ 37_856 }
     ensures size { length bytes.new ≡ 37_856 }

@@ -22,8 +22,8 @@ use rs_decode::Fix;
 use rs_lanes::Row;
 use std::alloc::Global;
 
-/// The received rows: 208 of 182 bytes, 37,856 bytes in sum. They lie one after the other, so that a block comes straight
-/// into them.
+/// The received rows: 208 of 182 bytes, 37,856 bytes in sum. They lie one after the other, so that a block comes
+/// straight into them.
 #[derive(Drop)]
 pub struct Received {
     bytes: Vec<u8>,
@@ -120,8 +120,8 @@ impl Received {
         self.bytes.copy_from_slice(rows.as_flattened());
     }
 
-    /// Puts the rows in the order of the block, where they are in the order of recording: the twelve rows of a frame are
-    /// side by side in both, so they move at once.
+    /// Puts the rows in the order of the block, where they are in the order of recording: the twelve rows of a frame
+    /// are side by side in both, so they move at once.
     pub(crate) fn put_in_order(&mut self)
         ensures { (i : ℕ) → i < 208 → row_in (received_bytes self.new) i ≡ row_in (received_bytes self.old) (record_at i) }
     {

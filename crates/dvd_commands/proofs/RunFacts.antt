@@ -20,8 +20,8 @@ use Rattle.dvd_words.specs.declared.table.Command.{Command}
 use Rattle.dvd_words.specs.declared.table.Command.TheVariants.{CdMake}
 use Rattle.dvd_words.specs.declared.settings.Settings.{Settings}
 
--- Of a meaning: its runs over the same bytes do the same; over bytes it has one, where no rule is broken and the settings
--- have what it needs; other workers change none; and lengths that are those of a layout break no rule of it.
+-- Of a meaning: its runs over the same bytes do the same; over bytes it has one, where no rule is broken and the
+-- settings have what it needs; other workers change none; and lengths that are those of a layout break no rule of it.
 pub record MeaningFacts (m : Meaning) (Needs : Settings → Type 0) : Type 0 where
   pub once : (settings : Settings) (bytes : List ℕ) → RunsOnce (GoesBy m settings bytes)
   pub some : (settings : Settings) (bytes : List ℕ) → HasBytes 6 settings.cpr → All IsByte bytes → m.breaks settings ≡ None → Needs settings
@@ -34,8 +34,8 @@ pub record MeaningFacts (m : Meaning) (Needs : Settings → Type 0) : Type 0 whe
 abbrev pub RunFacts : Command → Type 0
 RunFacts command = MeaningFacts (meaning command) (λ settings. command ≡ CdMake → HasAddresses settings)
 
--- Units by the settings and their layout, of which other workers change none: it is enough to know the runs over those of
--- any layout.
+-- Units by the settings and their layout, of which other workers change none: it is enough to know the runs over those
+-- of any layout.
 facts_by_layout : {Needs : Settings → Type 0} (units : Settings → Layout → Units)
     → ((workers : ℕ) (settings : Settings) (layout : Layout) (bytes : List ℕ) (outcome : Outcome) → IsOutcome (units settings layout) bytes outcome
     → IsOutcome (units (set_workers workers settings) layout) bytes outcome)
@@ -50,8 +50,8 @@ facts_by_layout units alike once some = record {
   valid = λ settings none. none;
 }
 
--- Units of given sizes, by the settings and their layout: one thing alone, and something, may be done for each and after
--- all of them.
+-- Units of given sizes, by the settings and their layout: one thing alone, and something, may be done for each and
+-- after all of them.
 pub facts_of_sized : {Needs : Settings → Type 0} (units : Settings → Layout → Units) (size : Settings → Layout → ℕ → ℕ)
     → ((workers : ℕ) (settings : Settings) (layout : Layout) (bytes : List ℕ) (outcome : Outcome) → IsOutcome (units settings layout) bytes outcome
     → IsOutcome (units (set_workers workers settings) layout) bytes outcome)

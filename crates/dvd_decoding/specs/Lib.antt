@@ -1,4 +1,5 @@
--- What is read of a captured block, as definitions alone: its cause, its frames, its sectors, and what is salvaged of it.
+-- What is read of a captured block, as definitions alone: its cause, its frames, its sectors, and what is salvaged of
+-- it.
 pub mod Causes
 pub mod Frames
 pub mod Made

@@ -12,8 +12,8 @@ use Rattle.dvd_decoding.specs.Causes.{two_pass_cause}
 use Rattle.coding.specs.Found.{block_found}
 use Rattle.dvd_decoding.specs.Frames.{frame_of, wanted_word}
 
--- The candidate of frame f: frame f of the block that two passes find. Where they refuse it, it is that of the rows' answers, if
--- all twelve rows have one.
+-- The candidate of frame f: frame f of the block that two passes find. Where they refuse it, it is that of the rows'
+-- answers, if all twelve rows have one.
 unfoldable pub candidate : List (Option (List ℕ)) → ℕ → Option (List ℕ)
 candidate answers f =
     if is_none (two_pass_cause answers) then Some (frame_of (block_found answers) f)
@@ -27,7 +27,8 @@ rescued answers entry f =
     (λ frame. if is_none (frame_cause frame (wanted_word entry f) (rule_for entry.content f)) then Some (main_in frame (rule_for entry.content f)) else None)
     (candidate answers f)
 
--- The sixteen sectors that are salvaged of what was received: the Main Data of a salvaged frame, zeros for one that is lost.
+-- The sixteen sectors that are salvaged of what was received: the Main Data of a salvaged frame, zeros for one that is
+-- lost.
 unfoldable pub block_out : List (List ℕ) → List (List Bool) → BlockPlan → List (List ℕ)
 block_out rows marks entry = map (λ f. unwrap_or (rescued (answers_of rows marks) entry f) (replicate 2048 0)) (range_with_len 0 16)
 

@@ -85,7 +85,8 @@ fn folded(front: &[u8], back: &[u8]) -> u32
     with_bytes(0, &bytes[1952..])
 }
 
-// The remainder of what was read so far, with these bytes more: by words of eight bytes, and the last few by themselves.
+// The remainder of what was read so far, with these bytes more: by words of eight bytes, and the last few by
+// themselves.
 fn with_bytes(register: u32, bytes: &[u8]) -> u32
     ensures { (rest : List ℕ) → divided_from result rest ≡ divided_from register (bytes.now ++ rest) }
 {
@@ -108,8 +109,8 @@ fn with_words(register: u32, words: &[[u8; 8]]) -> u32
     next
 }
 
-// Eight bytes more at once: the whole register leaves, added to the first four, and what dividing all eight leaves is the
-// next. So no part of the register is shifted, and the eight look-ups needn't wait for each other.
+// Eight bytes more at once: the whole register leaves, added to the first four, and what dividing all eight leaves is
+// the next. So no part of the register is shifted, and the eight look-ups needn't wait for each other.
 fn with_word(register: u32, word: [u8; 8]) -> u32
     ensures { (rest : List ℕ) → divided_from result rest ≡ divided_from register (word ++ rest) }
 {

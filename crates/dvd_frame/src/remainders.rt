@@ -14,8 +14,8 @@ macro_rules! sums {
     ([$($sum:expr),*] $number:literal $($more:literal)*) => { sums!([$($sum,)* $($sum ^ $number),*] $($more)*) };
 }
 
-/// What division by x^32 + x^31 + x^4 + 1 leaves of each byte: table k for the byte followed by k bytes of zeros and then
-/// 32 zeros. Division is linear: what it leaves of a sum of bytes is the sum of what it leaves of each.
+/// What division by x^32 + x^31 + x^4 + 1 leaves of each byte: table k for the byte followed by k bytes of zeros and
+/// then 32 zeros. Division is linear: what it leaves of a sum of bytes is the sum of what it leaves of each.
 static REMAINDERS: [[u32; 256]; 8] = [
     sums!([0] 0x80000011 0x80000033 0x80000077 0x800000FF 0x800001EF 0x800003CF 0x8000078F 0x80000F0F),
     sums!([0] 0x80001E0F 0x80003C0F 0x8000780F 0x8000F00F 0x8001E00F 0x8003C00F 0x8007800F 0x800F000F),
@@ -34,7 +34,8 @@ pub(crate) fn remainder_of(byte: u8) -> u32
     entry(&REMAINDERS[0], byte)
 }
 
-/// What division leaves of eight bytes followed by 32 zeros: the sum of what it leaves of each, with zeros for the others.
+/// What division leaves of eight bytes followed by 32 zeros: the sum of what it leaves of each, with zeros for the
+/// others.
 pub(crate) fn remainder_of_word(word: [u8; 8]) -> u32
     ensures { bits 32 result ≡ remainder 64 (bits_of word ++ replicate 32 0) }
 {

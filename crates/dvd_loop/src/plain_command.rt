@@ -29,8 +29,8 @@ pub trait PlainCommand<S: Source, K: Sink, E: Sink> {
         ensures { result ≡ (units (key self.now)).count };
 
     /// Reads unit `k`, does its steps in order, which are the bytes that it writes and the lines that it reports, and
-    /// answers the kind of the unit: Last ends the loop. Where the input ends or a call fails it answers how the loop ends,
-    /// and does nothing more. `ProcessesPlain` says all this, whatever units came before.
+    /// answers the kind of the unit: Last ends the loop. Where the input ends or a call fails it answers how the loop
+    /// ends, and does nothing more. `ProcessesPlain` says all this, whatever units came before.
     fn process(&mut self, k: u32, src: &mut S, out: &mut K, report: &mut E) -> Processed
         requires unit { k < (units (key self.old)).count }
         requires ready { ready self.old }

@@ -133,9 +133,10 @@ static COMMANDS: [CommandSpec<'static>; 12] = rows! {
 };
 
 /// The row of a command: the rows are in the order of `Command`. `free` is of the same row as clap is given it by
-/// `parser_for` (its definition is `app_for`): clap's rules for it are simple, and none depends on another option, which
-/// `parse_by` requires. It is a clause here since it is proved by computing each row where the table is: so a new command
-/// needs no proof of it.
+/// `parser_for` (its definition is `app_for`): clap's rules for it are simple, and none depends on another option,
+/// which
+/// `parse_by` requires. It is a clause here since it is proved by computing each row where the table is: so a new
+/// command needs no proof of it.
 pub fn spec_of<'a>(command: Command) -> &'a CommandSpec<'a>
     ensures row { entry result.now ≡ command_entry command }
     ensures free { is_simple_and_free (app_for command) ≡ true }

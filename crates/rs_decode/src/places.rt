@@ -113,8 +113,8 @@ fn inverse_of(points: &[u8]) -> Option<Inverse>
     Some(Inverse::new(ArrayVec::try_from(points).unwrap()))
 }
 
-// The powers of alpha that the bytes at the marked places are at, unless more than `most` places are marked. Also writes
-// these places in order.
+// The powers of alpha that the bytes at the marked places are at, unless more than `most` places are marked. Also
+// writes these places in order.
 fn marked_points(marks: &[bool], most: usize, places: &mut [u8; 256]) -> Option<ArrayVec<u8, 32>>
     requires room { most ≤ 32 }
     requires short { length marks.now ≤ 255 }

@@ -24,8 +24,8 @@ pub fn draw_end(end: DrawEnd) -> RunEnd
     }
 }
 
-// The end of a survey that is cut: in which line, and how many bytes of that came. It has a status of its own, though the
-// picture is written whole.
+// The end of a survey that is cut: in which line, and how many bytes of that came. It has a status of its own, though
+// the picture is written whole.
 fn short_end(number: u64, bytes: u64) -> RunEnd
     ensures status { result.status ≡ Status.Short }
     ensures line { result.line ≡ draw_line (Short number bytes) }
