@@ -83,6 +83,8 @@ fn answer_lost_rows(
 }
 
 // Answers row `i` if it is lost: no codeword is near it, whatever its bytes are. Answers whether it is.
+// Few rows are marked, so what counts their marks stays out of the loop over all rows.
+#[inline(never)]
 fn answer_lost(row: &[u8; 182], marks: &Marks, i: usize, answer: &mut AnswerRow) -> bool
     requires { i < 208 }
     ensures { IsTrue result → IsAnswer row.now (marks_line (marks_rows marks.now) i) answer.new }
