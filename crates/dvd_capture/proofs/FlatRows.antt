@@ -49,8 +49,8 @@ same_before m new old i same within =
     sym (row_before m new i within) ∙ ap (λ (l : List ℕ). row_in l i) same ∙ row_before m old i within
 
 -- and one that begins after m bytes, where those after them are
-pub same_behind : (m : ℕ) (new old : List ℕ) (i : ℕ) → drop m new ≡ drop m old → m ≤ 182 * i → row_in new i ≡ row_in old i
-same_behind m new old i same within =
+pub same_after : (m : ℕ) (new old : List ℕ) (i : ℕ) → drop m new ≡ drop m old → m ≤ 182 * i → row_in new i ≡ row_in old i
+same_after m new old i same within =
     let parts : 182 * i ≡ m + (182 * i - m) = omega (arith, within) in
     let rest : ℕ = 182 * i - m in
     ap (λ (k : ℕ). take 182 (drop k new)) parts
@@ -101,7 +101,7 @@ rows_in-set_byte bytes i j byte below low =
     (ap (take 182) (drop-set-add at bytes j byte) ∙ take-set-lt 182 (drop at bytes) j byte low
     ∙ ap (λ (l : List ℕ). set l j byte) (sym (rows_in-line bytes i below)))
     (λ m less. same_before at new bytes m (take-set-le at bytes (at + j) byte (omega arith)) (omega (arith, less)))
-    (λ m more. same_behind (at + 182) new bytes m (drop-set-lt (at + 182) bytes (at + j) byte (omega (arith, low))) (omega (arith, more)))
+    (λ m more. same_after (at + 182) new bytes m (drop-set-lt (at + 182) bytes (at + j) byte (omega (arith, low))) (omega (arith, more)))
 
 -- zeros are rows of zeros
 pub rows_in-zeros : rows_in (replicate 37_856 0) ≡ replicate 208 (replicate 182 0)

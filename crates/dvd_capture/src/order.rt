@@ -45,7 +45,7 @@ fn move_frame(bytes: &mut [u8], f: usize)
     ensures size { length bytes.new ≡ 37_856 }
     ensures moved { (k : ℕ) → k < 12 → row_in bytes.new (12 * f + k) ≡ row_in bytes.old (13 * f + k) }
     ensures before { (i : ℕ) → i < 12 * f → row_in bytes.new i ≡ row_in bytes.old i }
-    ensures behind { (i : ℕ) → 12 * f + 12 ≤ i → row_in bytes.new i ≡ row_in bytes.old i }
+    ensures after { (i : ℕ) → 12 * f + 12 ≤ i → row_in bytes.new i ≡ row_in bytes.old i }
 {
     let mut frame = [0; FRAME];
     let from = ROW * (13 * f);
@@ -59,7 +59,7 @@ pub(crate) fn set_rows(bytes: &mut [u8], i: usize, rows: &[u8])
     ensures size { length bytes.new ≡ length bytes.old }
     ensures set { (k : ℕ) → 182 * k + 182 ≤ length rows.now → row_in bytes.new (i + k) ≡ row_in rows.now k }
     ensures before { (m : ℕ) → m < i → row_in bytes.new m ≡ row_in bytes.old m }
-    ensures behind { (m : ℕ) → 182 * i + length rows.now ≤ 182 * m → row_in bytes.new m ≡ row_in bytes.old m }
+    ensures after { (m : ℕ) → 182 * i + length rows.now ≤ 182 * m → row_in bytes.new m ≡ row_in bytes.old m }
 {
     let from = ROW * i;
     bytes[from..from + rows.len()].copy_from_slice(rows);

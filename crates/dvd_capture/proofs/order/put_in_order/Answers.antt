@@ -11,7 +11,7 @@ loop-f-preserved c =
       size = c.move_frame.ensures.size;
       moved = frame_more came c.loop-f.bytes c.move_frame.new.bytes f (omega arith)
           c.move_frame.ensures.moved c.move_frame.ensures.before c.loop-f.invariant.rest c.loop-f.invariant.moved;
-      rest = λ i from. c.move_frame.ensures.behind i (omega (arith, from)) ∙ c.loop-f.invariant.rest i (omega (arith, from));
+      rest = λ i from. c.move_frame.ensures.after i (omega (arith, from)) ∙ c.loop-f.invariant.rest i (omega (arith, from));
       kept = parity_more came c.loop-f.bytes c.loop-f.parity c.keep_parity.new.parity f
           c.keep_parity.ensures.row c.keep_parity.ensures.before c.loop-f.invariant.rest c.loop-f.invariant.kept;
     }

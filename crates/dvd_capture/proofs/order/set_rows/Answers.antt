@@ -3,7 +3,7 @@ use Rattle.std.proofs.Common.{◌≡◌, ◌∙◌, ℕ, ◌+◌, ◌-◌, ◌*�
 use Rattle.std.proofs.lemmas.List.{length-take-le}
 use Rattle.std.proofs.lemmas.Slice.{drop-put_mid, take-put_mid, take-put_mid_below}
 use Rattle.dvd_capture.specs.Parts.{row_in}
-use Rattle.dvd_capture.proofs.FlatRows.{row_after, row_before, same_before, same_behind}
+use Rattle.dvd_capture.proofs.FlatRows.{row_after, row_before, same_before, same_after}
 use Rattle.dvd_capture.proofs.order.set_rows.Goals as goal
 
 pub returns-clause-set : goal.returns-clause-set
@@ -25,11 +25,11 @@ returns-clause-before c = λ m less.
     (take-put_mid_below at _ c.args.bytes.now c.copy_from_slice.new.self at (omega arith) (omega (arith, c.requires)))
     (omega (arith, less))
 
-pub returns-clause-behind : goal.returns-clause-behind
-returns-clause-behind c = λ m more.
+pub returns-clause-after : goal.returns-clause-after
+returns-clause-after c = λ m more.
     let at : ℕ = 182 * c.args.i in
     let end : ℕ = at + length c.args.rows.now in
     let size : length c.copy_from_slice.new.self ≡ length c.args.rows.now = ap length c.copy_from_slice.ensures.after in
-    same_behind end _ c.args.bytes.now m
+    same_after end _ c.args.bytes.now m
     (drop-put_mid at (end - at) c.args.bytes.now c.copy_from_slice.new.self end (omega arith) (omega (arith, c.requires)) (omega (arith, size)))
     (omega (arith, more))

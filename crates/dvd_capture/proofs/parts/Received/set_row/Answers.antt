@@ -17,4 +17,4 @@ returns c =
     ∙ rows_in-set c.args.self.now.bytes.items new i row c.requires.row
     (ap (row_in new) (sym first) ∙ c.set_rows.ensures.set 0 (omega (arith, c.requires.size)) ∙ take_all 182 row (omega (arith, c.requires.size)))
     (λ m less. c.set_rows.ensures.before m less ∙ kept m)
-    (λ m more. c.set_rows.ensures.behind m (omega (arith, more, c.requires.size)) ∙ kept m)
+    (λ m more. c.set_rows.ensures.after m (omega (arith, more, c.requires.size)) ∙ kept m)
