@@ -71,6 +71,7 @@ fn each_piece_of_both_passes_is_asked_for_once_a_pass(rt: HostRuntime) -> Result
     Ok(())
 }
 
+// Parity is added in two passes too: that of the rows, and then that of the columns.
 #[test]
 fn each_piece_of_the_parity_is_asked_for_once_a_pass(rt: HostRuntime) -> Result<(), Fail> {
     for (workers, digits) in ASKED {
