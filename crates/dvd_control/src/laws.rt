@@ -3,7 +3,8 @@
 ghost use Rattle.dvd_control.specs.Laws.{FormatNamesTheLastSector, WrittenFormatsAreValid, WrittenFormatsAreReadBack};
 
 /// A sector that `to_bytes` writes, of any physical format, breaks no rule: `from_bytes` doesn't refuse it. The rules,
-/// those of `ControlFault`, hold by what `to_bytes` writes and by the ghost fields of the type, which bound its numbers.
+/// those of `ControlFault`, hold by what `to_bytes` writes and by the ghost fields of the type, which bound its
+/// numbers.
 #[tactic(auto, using(crate::proofs::RoundTrip::written_laws))]
 pub fn written_formats_are_valid()
     ensures { WrittenFormatsAreValid }

@@ -9,8 +9,8 @@ use dvd_ports::{Sink, Source};
 
 /// A command whose units are independent: the processing of one is right whatever came before it.
 pub trait PlainCommand<S: Source, K: Sink, E: Sink> {
-    /// What its units depend on, and the ghost names of the references that it holds: what these refer to may change, and
-    /// which they are stays. No unit changes it.
+    /// What its units depend on, and the ghost names of the references that it holds: what these refer to may change,
+    /// and which they are stays. No unit changes it.
     ghost Key: { Type 0 };
 
     /// The key of this command.

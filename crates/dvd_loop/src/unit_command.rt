@@ -15,9 +15,9 @@ use dvd_ports::{Sink, Source};
 
 /// A command that goes over its input unit by unit. The streams are parameters, since a run has one of each.
 pub trait UnitCommand<S: Source, K: Sink, E: Sink> {
-    /// What its units depend on, and the ghost names of the references that it holds: what these refer to may change, and
-    /// which they are stays. No unit changes it.
-    /// Units are too large a thing for a clause to compare before and after a call.
+    /// What its units depend on, and the ghost names of the references that it holds: what these refer to may change,
+    /// and which they are stays. No unit changes it. Units are too large a thing for a clause to compare before and
+    /// after a call.
     ghost Key: { Type 0 };
 
     /// The key of this command.
