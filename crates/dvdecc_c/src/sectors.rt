@@ -44,7 +44,7 @@ pub extern "C" fn dvdecc_cd_check(sector: &[u8; 2352], address: u32, number: &mu
     }
     match cd_sector::check(sector, address) {
         Ok(()) => status::OK,
-        Err(cause) => told(cause, number),
+        Err(cause) => report_cause(cause, number),
     }
 }
 
@@ -68,14 +68,14 @@ pub extern "C" fn dvdecc_cd_repair(sector: &mut [u8; 2352], address: u32, number
             *number = u32::from(changes);
             status::OK
         }
-        Err(cause) => told(cause, number),
+        Err(cause) => report_cause(cause, number),
     }
 }
 
 // The status of a cause, and its number where it has one. A wrong EDC has no number, and leaves the caller's. Both
 // calls answer by it, so that a cause has one status.
-fn told(cause: CdCause, number: &mut u32) -> u32
-    ensures told { answered result number.new ≡ Some (Some cause) }
+fn report_cause(cause: CdCause, number: &mut u32) -> u32
+    ensures reported { answered result number.new ≡ Some (Some cause) }
     ensures number { number.new ≡ with_number result number.new number.old }
     ensures wrong { result ≢ 0 }
 {

@@ -5,4 +5,4 @@ pub returns-in-Ok-clause-answered : goal.returns-in-Ok-clause-answered
 returns-in-Ok-clause-answered c = λ below. c.in-Ok.ensures.right
 
 pub returns-in-Err-clause-answered : goal.returns-in-Err-clause-answered
-returns-in-Err-clause-answered c = λ below. rw c.told.ensures.told c.in-Err.ensures.refused
+returns-in-Err-clause-answered c = λ below. rw c.report_cause.ensures.reported c.in-Err.ensures.refused
