@@ -24,7 +24,7 @@ pub record IsAfter {S : Type 0} (seen : S → Seen) (task : Task) (k : ℕ) (buf
   pub fill : buffers.fill ≡ task.fill
   pub count : length buffers.held ≡ task.count
   pub captures : length news ≡ task.count
-  pub stands : (c : ℕ) → c < task.count → Stands task.size k (slice_index buffers.held c) (came c)
+  pub is_there : (c : ℕ) → c < task.count → Stands task.size k (slice_index buffers.held c) (came c)
   pub given : (c : ℕ) (d : S) → c < task.count → HasGiven task.size k (came c) (seen (slice_index_or olds c d)) (seen (slice_index_or news c d))
   pub due : (j : ℕ) → j < k → AreDue task came j
   pub writes : Appends old.bytes new.bytes (units_of task came k)
@@ -39,7 +39,7 @@ begins seen buffers olds old is count = record {
   fill = refl;
   count = refl;
   captures = count;
-  stands = λ c inside.
+  is_there = λ c inside.
       let held : slice_index buffers.held c ≡ buffers.size = ap (λ (b : BuffersState). slice_index b.held c) is ∙ get_or-replicate (length buffers.held) c buffers.size 0 inside in
       inl (omega (arith, held), sym (mul-zero buffers.size));
   given = λ c d inside. record { reads = Consumes-none _; answers = inl (sym (mul-zero buffers.size), unmoved _) };
@@ -58,7 +58,7 @@ module _ {S : Type 0} (seen : S → Seen) (task : Task) (k : ℕ) (b b2 : Buffer
   -- each capture is one block further
   one : (c : ℕ) (d : S) → c < task.count → IsStepped task.size k (a.came c) (r.owns c) (seen (slice_index_or olds c d)) (seen (slice_index_or news c d))
   one c d inside =
-      stepped task.size k (slice_index b.held c) (a.came c) (r.owns c) _ _ _ (a.stands c inside) (a.given c d inside)
+      stepped task.size k (slice_index b.held c) (a.came c) (r.owns c) _ _ _ (a.is_there c inside) (a.given c d inside)
       (subst (λ s. GivesBlock s (slice_index b.held c) (r.owns c) (seen (slice_index_or mids c d)) (seen (slice_index_or news c d))) a.size (r.gives c d (omega (arith, inside, a.captures))))
 
   held_is : (c : ℕ) → c < task.count → slice_index b2.held c ≡ length (r.owns c)
@@ -112,7 +112,7 @@ module _ {S : Type 0} (seen : S → Seen) (task : Task) (k : ℕ) (b b2 : Buffer
     fill = r.fill ∙ a.fill;
     count = count_is;
     captures = r.captures ∙ a.captures;
-    stands = λ c inside. subst (λ h. Stands task.size (suc k) h (then a.came r.owns c)) (sym (held_is c inside)) (at c inside).stands;
+    is_there = λ c inside. subst (λ h. Stands task.size (suc k) h (then a.came r.owns c)) (sym (held_is c inside)) (at c inside).is_there;
     given = λ c d inside. (one c d inside).given;
     due = λ j before. elim (cases_lt j k) [
       | inl earlier ↦ due_before j earlier
@@ -174,7 +174,7 @@ module _ {S : Type 0} (seen : S → Seen) (task : Task) (k : ℕ) (b b2 : Buffer
     due = due_before;
     gives = λ c d inside. (one c d inside).given;
     writes = record {
-      front = begun.taken;
+      prefix = begun.taken;
       left = begun.rest;
       parts = unit_now ∙ sym begun.whole;
       more = begun.more;
@@ -190,7 +190,7 @@ module _ {S : Type 0} (seen : S → Seen) (task : Task) (k : ℕ) (b : BuffersSt
   further : (c : ℕ) (d : S) → c < n → IsStepped task.size k (a.came c) (r.owns c) (seen (slice_index_or olds c d)) (seen (slice_index_or news c d))
   further c d earlier =
       let inside : c < task.count = omega (arith, earlier, r.capture, a.captures) in
-      stepped task.size k (slice_index b.held c) (a.came c) (r.owns c) _ _ _ (a.stands c inside) (a.given c d inside)
+      stepped task.size k (slice_index b.held c) (a.came c) (r.owns c) _ _ _ (a.is_there c inside) (a.given c d inside)
       (subst (λ s. GivesBlock s (slice_index b.held c) (r.owns c) (seen (slice_index_or mids c d)) (seen (slice_index_or news c d))) a.size (r.gives c d earlier))
 
   inside_is : n < task.count
@@ -198,7 +198,7 @@ module _ {S : Type 0} (seen : S → Seen) (task : Task) (k : ℕ) (b : BuffersSt
 
   -- The one that failed was asked, so all of its blocks came so far.
   whole_so_far : (d : S) → length (a.came n) ≡ task.size * k
-  whole_so_far d = elim (a.stands n inside_is) [
+  whole_so_far d = elim (a.is_there n inside_is) [
     | inl (asked, whole) ↦ whole
     | inr (ended, few) ↦ absurd (omega (arith, ended, (r.breaks d).asked, a.size))
   ]

@@ -40,7 +40,7 @@ Stands size k held came = ((size ≤ held) × (length came ≡ size * k)) ⊎ ((
 pub record IsStepped (size k : ℕ) (came own : List ℕ) (old new : Seen) : Type 0 where
   pub now : capture_block size k (came ++ own) ≡ own
   pub before : (j : ℕ) → j < k → capture_block size j (came ++ own) ≡ capture_block size j came
-  pub stands : Stands size (suc k) (length own) (came ++ own)
+  pub is_there : Stands size (suc k) (length own) (came ++ own)
   pub given : HasGiven size (suc k) (came ++ own) old new
   pub some : 0 < length own → size * k < length (came ++ own)
   pub over : length own ≡ 0 → length (came ++ own) ≤ size * k
@@ -63,7 +63,7 @@ ended_step size k held came old new ended few given =
     record {
       now = ap (capture_block size k) same ∙ block_past size k came (omega (arith, few));
       before = λ j before. ap (capture_block size j) same;
-      stands = inr (omega (arith, ended), omega (arith, size_same, next, few));
+      is_there = inr (omega (arith, ended), omega (arith, size_same, next, few));
       given = record {
         reads = subst (Consumes old.bytes new.bytes) (sym same) given.reads;
         answers = elim given.answers [
@@ -89,7 +89,7 @@ asked_step size k held came own old mid new asked whole given gives =
       | inl (full, went) ↦ record {
         now = block_now size k came own whole (omega (arith, full));
         before = λ j before. block_before size k j came own before (omega (arith, whole));
-        stands = inl (omega (arith, full), omega (arith, grown, next, full));
+        is_there = inl (omega (arith, full), omega (arith, grown, next, full));
         given = record { reads = reads; answers = inl (omega (arith, grown, next, full), goes_on old mid new on went) };
         some = λ some. omega (arith, grown, some);
         over = λ none. omega (arith, grown, none);
@@ -99,7 +99,7 @@ asked_step size k held came own old mid new asked whole given gives =
       | inr (fewer, end, met) ↦ record {
         now = block_now size k came own whole (omega (arith, fewer));
         before = λ j before. block_before size k j came own before (omega (arith, whole));
-        stands = inr (fewer, omega (arith, grown, next, fewer));
+        is_there = inr (fewer, omega (arith, grown, next, fewer));
         given = record { reads = reads; answers = inr (omega (arith, grown, next, fewer), end, ends_after old mid new on met) };
         some = λ some. omega (arith, grown, some);
         over = λ none. omega (arith, grown, none);

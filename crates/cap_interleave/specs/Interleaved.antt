@@ -61,11 +61,11 @@ Gives size units end c came old new = HasGiven size (suc units) came old new
 -- A write failed within the bytes of a unit, after those of the units before: a prefix was written, and something was
 -- left.
 pub record IsCutWithin (before unit : List ℕ) (old new : Seen) : Type 0 where
-  pub front : List ℕ
+  pub prefix : List ℕ
   pub left : List ℕ
-  pub parts : unit ≡ front ++ left
+  pub parts : unit ≡ prefix ++ left
   pub more : left ≢ []
-  pub writes : Appends old.bytes new.bytes (before ++ front)
+  pub writes : Appends old.bytes new.bytes (before ++ prefix)
   pub failed : HasFailed old new
 
 -- what was written

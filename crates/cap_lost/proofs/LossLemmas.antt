@@ -111,14 +111,14 @@ module _ (extent : Extent) (some : extent.from < extent.to) where
         let rest = lost_more (x.to + 1) (y ∷ es) apart.2 before in
         subst (λ l. IsLost l sector ↔ (IsLost (x ∷ y ∷ es) sector ⊎ IsInExtent extent sector)) (sym (first_stays x y extent es)) (one rest.0, other rest.1)
       where
-        behind : IsLost (y ∷ es) sector ⊎ IsInExtent extent sector → IsLost (x ∷ y ∷ es) sector ⊎ IsInExtent extent sector
-        behind (inl lost) = inl (inr lost)
-        behind (inr is) = inr is
+        past : IsLost (y ∷ es) sector ⊎ IsInExtent extent sector → IsLost (x ∷ y ∷ es) sector ⊎ IsInExtent extent sector
+        past (inl lost) = inl (inr lost)
+        past (inr is) = inr is
 
         one : (IsLost (with_extent (y ∷ es) extent) sector → IsLost (y ∷ es) sector ⊎ IsInExtent extent sector)
             → IsLost (x ∷ with_extent (y ∷ es) extent) sector → IsLost (x ∷ y ∷ es) sector ⊎ IsInExtent extent sector
         one rest (inl within) = inl (inl within)
-        one rest (inr lost) = behind (rest lost)
+        one rest (inr lost) = past (rest lost)
 
         other : (IsLost (y ∷ es) sector ⊎ IsInExtent extent sector → IsLost (with_extent (y ∷ es) extent) sector)
             → IsLost (x ∷ y ∷ es) sector ⊎ IsInExtent extent sector → IsLost (x ∷ with_extent (y ∷ es) extent) sector

@@ -13,37 +13,37 @@ use Rattle.cap_lost.specs.declared.extent.Extent.{Extent}
 
 -- nothing was written
 pub none_written : (old : Seen) (whole : List ℕ) → IsUnwritten whole whole old old
-none_written old whole = record { front = []; grows = Appends-none old.bytes; splits = refl; steady = unmoved old }
+none_written old whole = record { prefix = []; grows = Appends-none old.bytes; splits = refl; steady = unmoved old }
 
 -- a piece more
 pub more_written : (old mid new : Seen) (whole piece rest : List ℕ) → IsUnwritten whole (piece ++ rest) old mid → Appends mid.bytes new.bytes piece
     → HasGoneOn mid new → IsUnwritten whole rest old new
 more_written old mid new whole piece rest left grows on = record {
-  front = left.front ++ piece;
-  grows = Appends-then old.bytes mid.bytes new.bytes left.front piece left.grows grows;
-  splits = append_assoc left.front piece rest ∙ left.splits;
+  prefix = left.prefix ++ piece;
+  grows = Appends-then old.bytes mid.bytes new.bytes left.prefix piece left.grows grows;
+  splits = append_assoc left.prefix piece rest ∙ left.splits;
   steady = goes_on old mid new left.steady on;
 }
 
 -- the last piece
 pub all_written : (old mid new : Seen) (whole piece : List ℕ) → IsUnwritten whole piece old mid → Appends mid.bytes new.bytes piece → Appends old.bytes new.bytes whole
 all_written old mid new whole piece left grows =
-    subst (Appends old.bytes new.bytes) left.splits (Appends-then old.bytes mid.bytes new.bytes left.front piece left.grows grows)
+    subst (Appends old.bytes new.bytes) left.splits (Appends-then old.bytes mid.bytes new.bytes left.prefix piece left.grows grows)
 
 -- a front of the piece, where the sink failed
 pub begun_then : (old mid new : Seen) (whole piece rest : List ℕ) → IsUnwritten whole (piece ++ rest) old mid → AppendsPrefix mid.bytes new.bytes piece
     → AppendsPrefix old.bytes new.bytes whole
 begun_then old mid new whole piece rest left begun = record {
-  taken = left.front ++ begun.taken;
+  taken = left.prefix ++ begun.taken;
   rest = begun.rest ++ rest;
-  grows = Appends-then old.bytes mid.bytes new.bytes left.front begun.taken left.grows begun.grows;
-  whole = append_assoc left.front begun.taken (begun.rest ++ rest) ∙ ap (λ l. left.front ++ l) (sym (append_assoc begun.taken begun.rest rest) ∙ ap (λ l. l ++ rest) begun.whole) ∙ left.splits;
-  more = λ none. begun.more (no_front begun.rest none);
+  grows = Appends-then old.bytes mid.bytes new.bytes left.prefix begun.taken left.grows begun.grows;
+  whole = append_assoc left.prefix begun.taken (begun.rest ++ rest) ∙ ap (λ l. left.prefix ++ l) (sym (append_assoc begun.taken begun.rest rest) ∙ ap (λ l. l ++ rest) begun.whole) ∙ left.splits;
+  more = λ none. begun.more (no_prefix begun.rest none);
 }
   where
-    no_front : (front : List ℕ) → front ++ rest ≡ [] → front ≡ []
-    no_front [] none = refl
-    no_front (c ∷ cs) none = absurd cc
+    no_prefix : (prefix : List ℕ) → prefix ++ rest ≡ [] → prefix ≡ []
+    no_prefix [] none = refl
+    no_prefix (c ∷ cs) none = absurd cc
 
 -- a write that failed, of which a front was taken
 pub writes_failed : {E : Type 0} (answer : Result (Unit {0}) E) (bytes : List ℕ) (old new : Seen) → IsErr answer → AppendsPrefix old.bytes new.bytes bytes
@@ -72,8 +72,8 @@ last_written (Err fault) whole piece old mid new left written =
     }
 
 -- the lines of some extents, and those of the extents after them
-pub lines_split : (at written total : ℕ) (front back : List Extent)
-    → lines_from at (front ++ back) written total ≡ extent_lines at front ++ lines_from (last_end at front) back written total
+pub lines_split : (at written total : ℕ) (prefix back : List Extent)
+    → lines_from at (prefix ++ back) written total ≡ extent_lines at prefix ++ lines_from (last_end at prefix) back written total
 lines_split at written total [] back = refl
 lines_split at written total (e ∷ es) back =
     let own = sectors_line at e.from 43 ++ sectors_line e.from e.to 45 in
@@ -82,11 +82,11 @@ lines_split at written total (e ∷ es) back =
     ∙ sym (append_assoc own (extent_lines e.to es) (lines_from (last_end e.to es) back written total))
 
 -- the same of a list that is cut
-pub lines_cut : (at written total n : ℕ) (extents front back : List Extent) → front ≡ take n extents → back ≡ drop n extents
-    → lines_from at extents written total ≡ extent_lines at front ++ lines_from (last_end at front) back written total
-lines_cut at written total n extents front back is rest =
-    ap (λ l. lines_from at l written total) (sym (take-append-drop n extents) ∙ ap (λ l. l ++ drop n extents) (sym is) ∙ ap (λ l. front ++ l) (sym rest))
-    ∙ lines_split at written total front back
+pub lines_cut : (at written total n : ℕ) (extents prefix back : List Extent) → prefix ≡ take n extents → back ≡ drop n extents
+    → lines_from at extents written total ≡ extent_lines at prefix ++ lines_from (last_end at prefix) back written total
+lines_cut at written total n extents prefix back is rest =
+    ap (λ l. lines_from at l written total) (sym (take-append-drop n extents) ∙ ap (λ l. l ++ drop n extents) (sym is) ∙ ap (λ l. prefix ++ l) (sym rest))
+    ∙ lines_split at written total prefix back
 
 -- no extent is left
 pub none_left : (extents : List Extent) → length extents ≡ 0 → extents ≡ []

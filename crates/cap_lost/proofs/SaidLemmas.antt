@@ -8,9 +8,9 @@ use Rattle.dvd_layout.specs.declared.entry.BlockPlan.{BlockPlan}
 use Rattle.dvd_layout.specs.declared.layout.Layout.{Layout}
 use Rattle.dvd_layout.specs.declared.layout.Zones.{Zones}
 use Rattle.dvd_layout.proofs.InOrder.{plan_of-whole}
-use Rattle.cap_lost.specs.Blocks.{after_front, entry_said, extent_of, front_of, is_refusal, is_round, is_text, number_said, what_said}
+use Rattle.cap_lost.specs.Blocks.{after_prefix, entry_said, extent_of, prefix_of, is_refusal, is_round, is_text, number_said, what_said}
 use Rattle.cap_lost.specs.Closings.{count_said, counted_in, is_fault, stop_said, stopped_in}
-use Rattle.cap_lost.specs.Fronts.{without_prefix, number_first}
+use Rattle.cap_lost.specs.Prefixes.{without_prefix, number_first}
 use Rattle.cap_lost.specs.Report.{line_said, word_said}
 use Rattle.cap_lost.specs.declared.draft.Said.{Said}
 use Rattle.cap_lost.specs.declared.draft.Said.TheVariants.{Refused, GivenBack, Ended}
@@ -44,9 +44,9 @@ module _ (layout : Layout) (zones : Zones) (said : Said) where
   by_answer extent false true some is = subst (IsOfImage layout) (ok_is (GivenBack extent) said is) some
   by_answer extent false false some is = absurd cc
 
-  by_front : (entry : BlockPlan) (what : Option (List ℕ)) → after_front layout entry what ≡ Ok said → IsOfImage layout said
-  by_front entry None is = absurd cc
-  by_front entry (Some what) is =
+  by_prefix : (entry : BlockPlan) (what : Option (List ℕ)) → after_prefix layout entry what ≡ Ok said → IsOfImage layout said
+  by_prefix entry None is = absurd cc
+  by_prefix entry (Some what) is =
       let count = image_sectors layout entry.content in
       let extent = extent_of layout entry.content in
       let holds = not_refused (count == 0) NoImage (what_said extent what) said is in
@@ -54,7 +54,7 @@ module _ (layout : Layout) (zones : Zones) (said : Said) where
 
   by_entry : (k : ℕ) (line : List ℕ) (entry : Option BlockPlan) → entry_said layout k line entry ≡ Ok said → IsOfImage layout said
   by_entry k line None is = absurd cc
-  by_entry k line (Some entry) is = by_front entry (without_prefix (front_of k entry) line) is
+  by_entry k line (Some entry) is = by_prefix entry (without_prefix (prefix_of k entry) line) is
 
   by_number : (line : List ℕ) (found : Option (ℕ × List ℕ)) → number_said layout zones line found ≡ Ok said → IsOfImage layout said
   by_number line None is = absurd cc

@@ -8,7 +8,7 @@ use Rattle.dvd_layout.specs.declared.entry.Content.{Content}
 use Rattle.dvd_layout.specs.declared.layout.Layout.{Layout}
 use Rattle.dvd_layout.specs.declared.layout.Zones.{Zones}
 use Rattle.dvd_report.specs.Lines.{block_text}
-use Rattle.cap_lost.specs.Fronts.{without_prefix, after_number, after_eight_digits, number_first}
+use Rattle.cap_lost.specs.Prefixes.{without_prefix, after_number, after_eight_digits, number_first}
 use Rattle.cap_lost.specs.declared.draft.Said.{Said}
 use Rattle.cap_lost.specs.declared.draft.Said.TheVariants.{Refused, GivenBack}
 use Rattle.cap_lost.specs.declared.extent.Extent.{Extent}
@@ -55,19 +55,19 @@ abbrev pub what_said : Extent → List ℕ → Result Said ReportCause
 what_said extent what = if is_refusal what then Ok (Refused extent) else (if is_round what then Ok (GivenBack extent) else Err Line)
 
 -- what each line of block k begins with
-abbrev pub front_of : ℕ → BlockPlan → List ℕ
-front_of k entry = block_text k entry ++ codes ": "
+abbrev pub prefix_of : ℕ → BlockPlan → List ℕ
+prefix_of k entry = block_text k entry ++ codes ": "
 
 -- what a line of block k says after that beginning
-abbrev pub after_front : Layout → BlockPlan → Option (List ℕ) → Result Said ReportCause
-after_front layout entry None = Err Place
-after_front layout entry (Some what) =
+abbrev pub after_prefix : Layout → BlockPlan → Option (List ℕ) → Result Said ReportCause
+after_prefix layout entry None = Err Place
+after_prefix layout entry (Some what) =
     if image_sectors layout entry.content == 0 then Err NoImage else what_said (extent_of layout entry.content) what
 
 -- block k of a layout, if it has one
 abbrev pub entry_said : Layout → ℕ → List ℕ → Option BlockPlan → Result Said ReportCause
 entry_said layout k line None = Err Block
-entry_said layout k line (Some entry) = after_front layout entry (without_prefix (front_of k entry) line)
+entry_said layout k line (Some entry) = after_prefix layout entry (without_prefix (prefix_of k entry) line)
 
 -- the block that a line names, by the number and the text after the first word
 abbrev pub number_said : Layout → Zones → List ℕ → Option (ℕ × List ℕ) → Result Said ReportCause

@@ -5,7 +5,7 @@ use Rattle.dvd_layout.specs.Plan.{plan_of}
 use Rattle.dvd_layout.specs.declared.layout.Layout.{Layout}
 use Rattle.dvd_layout.specs.declared.layout.Zones.{Zones}
 use Rattle.cap_lost.specs.Blocks.{is_text}
-use Rattle.cap_lost.specs.Fronts.{without_prefix, number_first}
+use Rattle.cap_lost.specs.Prefixes.{without_prefix, number_first}
 use Rattle.cap_lost.specs.declared.draft.Said.{Said}
 use Rattle.cap_lost.specs.declared.draft.Said.TheVariants.{Ended}
 use Rattle.cap_lost.specs.declared.fault.ReportCause.{ReportCause}

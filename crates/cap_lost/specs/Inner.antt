@@ -65,9 +65,9 @@ HasReadOn bytes old new = 129 * old.number + length old.line.items + bytes ≤ 1
 
 -- The rest of a text is left to be written. What comes before it was written, and no write failed.
 pub record IsUnwritten (whole rest : List ℕ) (old now : Seen) : Type 0 where
-  pub front : List ℕ
-  pub grows : Appends old.bytes now.bytes front
-  pub splits : front ++ rest ≡ whole
+  pub prefix : List ℕ
+  pub grows : Appends old.bytes now.bytes prefix
+  pub splits : prefix ++ rest ≡ whole
   pub steady : HasGoneOn old now
 
 -- what a reader has of a report, after what was read of it

@@ -1,7 +1,7 @@
 -- What the contracts are about: the lines of a report, what they say of the image together, and its map.
 pub mod Blocks
 pub mod Closings
-pub mod Fronts
+pub mod Prefixes
 pub mod Inner
 pub mod Laws
 pub mod Lost

@@ -5,7 +5,7 @@ use Rattle.dvd_layout.specs.declared.layout.Layout.{Layout}
 use Rattle.dvd_layout.specs.declared.layout.Zones.{Zones}
 use Rattle.cap_lost.specs.Blocks.{block_said}
 use Rattle.cap_lost.specs.Closings.{closing_said}
-use Rattle.cap_lost.specs.Fronts.{without_prefix}
+use Rattle.cap_lost.specs.Prefixes.{without_prefix}
 use Rattle.cap_lost.specs.declared.draft.Said.{Said}
 use Rattle.cap_lost.specs.declared.draft.Said.TheVariants.{Refused, GivenBack, Ended}
 use Rattle.cap_lost.specs.declared.extent.Extent.{Extent}

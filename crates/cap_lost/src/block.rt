@@ -8,14 +8,14 @@
 //! bits, as in every plan, so that `H6` has them whole.
 ghost use Rattle.std.specs.Prelude.{◌≡◌, ◌<◌, codes, option_map, IfOk};
 ghost use Rattle.dvd_layout.specs.Place.{HasNumbers};
-ghost use Rattle.cap_lost.specs.Blocks.{after_address, after_front, block_said, entry_said, extent_of, front_of, is_numbered, is_refusal, is_round, is_saved, is_some_and, what_said};
-ghost use Rattle.cap_lost.specs.Fronts.{without_prefix};
+ghost use Rattle.cap_lost.specs.Blocks.{after_address, after_prefix, block_said, entry_said, extent_of, prefix_of, is_numbered, is_refusal, is_round, is_saved, is_some_and, what_said};
+ghost use Rattle.cap_lost.specs.Prefixes.{without_prefix};
 ghost use Rattle.cap_lost.specs.Inner.{NamesSectors};
 
 use crate::draft::Said;
 use crate::extent::Extent;
 use crate::fault::ReportCause;
-use crate::fronts::{after_eight_digits, after_number, is_text, number_first, without_prefix};
+use crate::prefixes::{after_eight_digits, after_number, is_text, number_first, without_prefix};
 use dvd_layout::{BlockPlan, Content, Layout, Zones};
 use dvd_report::{Line, put_block};
 
@@ -45,11 +45,11 @@ pub fn block_said(
 // A line of another layout is reported as such, whatever the block of that number holds in this one.
 fn place_said(layout: &Layout, k: u64, plan: &BlockPlan, line: &[u8]) -> Result<Said, ReportCause>
     requires { HasNumbers plan.now }
-    ensures said { result ≡ after_front layout.now plan.now (without_prefix (front_of k plan.now) line.now) }
+    ensures said { result ≡ after_prefix layout.now plan.now (without_prefix (prefix_of k plan.now) line.now) }
     ensures some { IfOk result NamesSectors }
 {
-    let front = front_of(k, plan);
-    let Some(what) = without_prefix(line, front.as_slice()) else {
+    let prefix = prefix_of(k, plan);
+    let Some(what) = without_prefix(line, prefix.as_slice()) else {
         return Err(ReportCause::Place);
     };
     let extent = extent_of(layout, plan.content);
@@ -62,9 +62,9 @@ fn place_said(layout: &Layout, k: u64, plan: &BlockPlan, line: &[u8]) -> Result<
 
 // What each line of block `k` begins with: its number, its first sector number and its layer. It is made and compared
 // with the line, so that no part of it needs a reader.
-fn front_of(k: u64, plan: &BlockPlan) -> Line
+fn prefix_of(k: u64, plan: &BlockPlan) -> Line
     requires { HasNumbers plan.now }
-    ensures { result ≡ front_of k plan.now }
+    ensures { result ≡ prefix_of k plan.now }
 {
     let mut line = Line::new();
     put_block(&mut line, k, plan);

@@ -10,7 +10,7 @@ ghost use Rattle.cap_lost.specs.Inner.{NamesSectors};
 
 use crate::draft::Said;
 use crate::fault::ReportCause;
-use crate::fronts::{is_text, number_first, without_prefix};
+use crate::prefixes::{is_text, number_first, without_prefix};
 use dvd_layout::{Content, Layout, Zones};
 
 /// What a line that names no block says, if it closes the report of an image. A run that went on to the last block

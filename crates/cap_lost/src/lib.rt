@@ -10,7 +10,7 @@ mod closing; // the closing line
 mod draft; // what lines say together
 mod extent; // sectors one after the other
 mod fault; // why a report isn't read
-mod fronts; // texts and numbers at the beginning of a text
+mod prefixes; // texts and numbers at the beginning of a text
 pub mod laws; // what holds of every report, as contracts alone
 mod map; // the map of the image
 mod reader; // lines out of bytes

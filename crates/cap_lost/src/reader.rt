@@ -8,13 +8,13 @@ ghost use Rattle.std.specs.Prelude.{◌≡◌, ◌+◌, ◌<◌, ◌≤◌, ◌+
 ghost use Rattle.cap_lost.specs.Inner.{HasReadOn, IsCounted, IsReaderSound, IsStopOf, NamesSectors, StopsAs, closing_count, goes_on, sayings_of};
 ghost use Rattle.cap_lost.specs.Report.{IsFaultOf, line_read, losses_of, word_said};
 ghost use Rattle.cap_lost.specs.Lost.{losses_in};
-ghost use Rattle.cap_lost.specs.Fronts.{without_prefix};
+ghost use Rattle.cap_lost.specs.Prefixes.{without_prefix};
 
 use crate::block::block_said;
 use crate::closing::closing_said;
 use crate::draft::{LossesDraft, Lost, ReportStop, Said};
 use crate::fault::{ReportCause, ReportFault};
-use crate::fronts::without_prefix;
+use crate::prefixes::without_prefix;
 use arrayvec::ArrayVec;
 use dvd_layout::{Layout, Zones};
 use std::alloc::Global;

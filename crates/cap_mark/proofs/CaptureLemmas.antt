@@ -16,7 +16,7 @@ use Rattle.cap_mark.specs.Frames.{mark_units, marked_frame}
 -- What comes of the frames from frame k on, of which these bytes are left.
 record IsDone (spans : List Span) (k : ℕ) (bytes : List ℕ) (o : Outcome) : Type 0 where
   writes : o.out ≡ marked_frames spans k (length bytes / 2366) bytes
-  tells : o.lines ≡ []
+  reports : o.lines ≡ []
   reads : o.taken ≡ bytes
   ends : o.end ≡ Short (k + length bytes / 2366) (length bytes % 2366)
 
@@ -43,7 +43,7 @@ ended_done spans k own o fewer ends takes =
     let none : length own / 2366 ≡ 0 = omega arith in
     let rest : length own % 2366 ≡ length own = omega arith in record {
       writes = ap (λ (x : Outcome). x.out) takes ∙ ap (λ n. marked_frames spans k n own) (sym none);
-      tells = ap (λ (x : Outcome). x.lines) takes;
+      reports = ap (λ (x : Outcome). x.lines) takes;
       reads = ap (λ (x : Outcome). x.taken) takes ∙ append-nil own;
       ends = ends ∙ ap (λ n. Short n (length own)) (omega (arith, none)) ∙ ap (λ n. Short (k + length own / 2366) n) (sym rest);
     }
@@ -59,7 +59,7 @@ taken_done spans k own left after size done =
           ∙ ap (λ l. marked_frame spans k l ++ marked_frames spans (suc k) (length left / 2366) left) (sym (ap (λ n. take n (own ++ left)) (sym size) ∙ take-append_seam own left))
           ∙ ap (λ l. marked_frame spans k (take 2366 (own ++ left)) ++ marked_frames spans (suc k) (length left / 2366) l) (sym (ap (λ n. drop n (own ++ left)) (sym size) ∙ drop-append_seam own left))
           ∙ ap (λ n. marked_frames spans k n (own ++ left)) (sym more);
-      tells = done.tells;
+      reports = done.reports;
       reads = ap (λ l. own ++ l) done.reads;
       ends = done.ends ∙ ap (λ n. Short n (length left % 2366)) (omega (arith, more)) ∙ ap (λ n. Short (k + length (own ++ left) / 2366) n) (sym same);
     }
@@ -72,7 +72,7 @@ module _ (spans : List Span) where
   goes_done (suc n) before bad bytes o fewer goes sound = elim goes [
     | inl w ↦
         let cut = cut_size w.own (length before) (length w.own) w.left o.end w.ends sound in
-        let is : bytes ≡ w.own = w.front ∙ ap (λ l. w.own ++ l) cut.2 ∙ append-nil w.own in
+        let is : bytes ≡ w.own = w.prefix ∙ ap (λ l. w.own ++ l) cut.2 ∙ append-nil w.own in
         subst (λ b. IsDone spans (length before) b o) (sym is) (ended_done spans (length before) w.own o cut.0 cut.1 w.takes)
     | inr t ↦
         let size = whole_size t.own t.unit.whole in
@@ -80,15 +80,15 @@ module _ (spans : List Span) where
         let frame = marked_frame spans (length before) t.own in
         let does : Performs (Write frame ∷ []) (ContinuesAfter t.kind Next) t.after = subst (λ s. Performs s (ContinuesAfter t.kind Next) t.after) t.unit.does.writes t.does in
         elim does [
-          | inl (front, left, whole, some, fails) ↦
+          | inl (prefix, left, whole, some, fails) ↦
               absurd (subst IsFaultless (ap (λ (x : Outcome). x.end) t.takes ∙ ap (λ (x : Outcome). x.end) fails) sound)
           | inr (next, goes_on, is) ↦
               let goes : Next next = subst (λ kind. ContinuesAfter kind Next next) t.unit.does.good goes_on in
               let same : o ≡ taking t.own (stepping (Write frame) next) = t.takes ∙ ap (taking t.own) is in
-              let fewer_left : length t.left < 2366 * n = omega (arith, length-append t.own t.left, ap length t.front) in
+              let fewer_left : length t.left < 2366 * n = omega (arith, length-append t.own t.left, ap length t.prefix) in
               let number : length (before ++ t.own ∷ []) ≡ suc (length before) = length-append before (t.own ∷ []) ∙ omega arith in
               let done = goes_done n (before ++ t.own ∷ []) (bad + bad_of t.kind) t.left next fewer_left goes (subst IsFaultless (ap (λ (x : Outcome). x.end) same) sound) in
-              subst (λ b. IsDone spans (length before) b o) (sym t.front)
+              subst (λ b. IsDone spans (length before) b o) (sym t.prefix)
               (subst (IsDone spans (length before) (t.own ++ t.left)) (sym same)
               (taken_done spans (length before) t.own t.left next size (subst (λ k. IsDone spans k t.left next) number done)))
         ]
@@ -97,4 +97,4 @@ module _ (spans : List Span) where
 pub marks_whole : MarksWhole
 marks_whole spans bytes outcome fewer runs sound =
     let done = goes_done spans (2 ^ 32 - 1) [] 0 bytes outcome fewer runs sound in
-    record { writes = done.writes; tells = done.tells; reads = done.reads; ends = done.ends ∙ ap (λ n. Short n (length bytes % 2366)) (zero-add (length bytes / 2366)) }
+    record { writes = done.writes; reports = done.reports; reads = done.reads; ends = done.ends ∙ ap (λ n. Short n (length bytes % 2366)) (zero-add (length bytes / 2366)) }

@@ -19,7 +19,7 @@ marked_capture spans bytes = marked_frames spans 0 (length bytes / 2366) bytes
 -- and no line is reported. The end names what is left in a last frame that is cut.
 pub record IsMarkedWhole (spans : List Span) (bytes : List ℕ) (outcome : Outcome) : Type 0 where
   pub writes : outcome.out ≡ marked_capture spans bytes
-  pub tells : outcome.lines ≡ []
+  pub reports : outcome.lines ≡ []
   pub reads : outcome.taken ≡ bytes
   pub ends : outcome.end ≡ Short (length bytes / 2366) (length bytes % 2366)
 

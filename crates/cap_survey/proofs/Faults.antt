@@ -17,7 +17,7 @@ too_long begun c more full other =
     ap (λ (p : Pieces). pieces_read begun.read (begun.line ++ p.first) p.others) (with_other c (pieces_of more) other)
     ∙ long_piece begun.read (begun.line ++ c ∷ (pieces_of more).first) (pieces_of more).others (omega (arith, full, length-append begun.line (c ∷ (pieces_of more).first)))
 
-pub breaks : (read : SurveyRead) (line told : List ℕ) (cause : SurveyCause) (rest : SurveyRead → Result Ended Fault) → told ≡ line → line_read read told ≡ Err cause
+pub breaks : (read : SurveyRead) (line said : List ℕ) (cause : SurveyCause) (rest : SurveyRead → Result Ended Fault) → said ≡ line → line_read read said ≡ Err cause
     → after_line read (line_read read (line ++ [])) rest ≡ Err (fault_of_next read cause)
-breaks read line told cause rest same is =
+breaks read line said cause rest same is =
     ap (λ l. after_line read (line_read read l) rest) (append-nil line ∙ sym same) ∙ ap (λ r. after_line read r rest) is

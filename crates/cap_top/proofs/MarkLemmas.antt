@@ -4,8 +4,8 @@ use Rattle.dvd_ports.specs.Causes.{HasGoneOn}
 use Rattle.dvd_ports.specs.Seen.{Seen}
 use Rattle.dvd_loop.specs.Laws.{IsFaultless}
 use Rattle.dvd_loop.specs.Machine.{Closes, Performs, IsClosed, IsOutcome, Outcome, ended, stepping}
-use Rattle.dvd_loop.specs.Machine.Step.{Tell}
-use Rattle.dvd_loop.specs.Streams.{HaveReached, Counts, HasEnded, HaveMoved, IsTold, Streams, is_report_fault, streams}
+use Rattle.dvd_loop.specs.Machine.Step.{Report}
+use Rattle.dvd_loop.specs.Streams.{HaveReached, Counts, HasEnded, HaveMoved, AreKnown, Streams, is_report_fault, streams}
 use Rattle.dvd_loop.specs.declared.ends.LoopEnd.{LoopEnd}
 use Rattle.dvd_loop.specs.declared.ends.LoopEnd.TheVariants.{ReportFault}
 use Rattle.dvd_loop.proofs.ClosedLemmas.{causes_closed, closed, closes_takes}
@@ -33,24 +33,24 @@ line_written : (within : LoopEnd) (line : Outcome) → IsFaultless within → Cl
     → (line.taken ≡ []) × (line.out ≡ []) × (line.lines ≡ closing_line within)
 line_written within line sound closes whole = go within sound closes
   where
-    told : (w : LoopEnd) → Performs (Tell (closing_line w) ∷ []) (λ after. after ≡ ended w) line → (line.taken ≡ []) × (line.out ≡ []) × (line.lines ≡ closing_line w)
-    told w does = elim does [
-      | inl (front, left, parts, some, fails) ↦ absurd (subst IsFaultless (ap (λ (o : Outcome). o.end) fails) whole)
+    reported : (w : LoopEnd) → Performs (Report (closing_line w) ∷ []) (λ after. after ≡ ended w) line → (line.taken ≡ []) × (line.out ≡ []) × (line.lines ≡ closing_line w)
+    reported w does = elim does [
+      | inl (prefix, left, parts, some, fails) ↦ absurd (subst IsFaultless (ap (λ (o : Outcome). o.end) fails) whole)
       | inr (after, is, stepped) ↦
-          let same : line ≡ stepping (Tell (closing_line w)) (ended w) = stepped ∙ ap (stepping (Tell (closing_line w))) is in
+          let same : line ≡ stepping (Report (closing_line w)) (ended w) = stepped ∙ ap (stepping (Report (closing_line w))) is in
           (ap (λ (o : Outcome). o.taken) same, ap (λ (o : Outcome). o.out) same, ap (λ (o : Outcome). o.lines) same ∙ append-nil (closing_line w))
     ]
 
     go : (w : LoopEnd) → IsFaultless w → Closes closing_line w line → (line.taken ≡ []) × (line.out ≡ []) × (line.lines ≡ closing_line w)
     go ReportFault sound does = absurd sound
-    go w sound does = told w does
+    go w sound does = reported w does
 
 -- so all of a capture is marked where nothing failed
 all_marked : (spans : List Span) (old new : Streams) (within end : LoopEnd) → HaveReached (λ bytes. IsClosed closing_line (IsOutcome (mark_units spans) bytes) within) old new end
     → (end ≢ ReportFault → end ≡ within) → MarksAll spans old new end
-all_marked spans old new within end comes same bytes told sound few =
+all_marked spans old new within end comes same bytes reported sound few =
     let is : end ≡ within = same_end end within sound same in
-    let bytes_are : bytes ≡ comes.bytes = subst (λ o. IsTold o comes.bytes) told comes.told in
+    let bytes_are : bytes ≡ comes.bytes = subst (λ o. AreKnown o comes.bytes) reported comes.known in
     let closed = comes.holds in
     let sound_within : IsFaultless within = subst IsFaultless is sound in
     let whole = marks_whole spans comes.bytes closed.loop (subst (λ b. length b < 2366 * (2 ^ 32 - 1)) bytes_are few) closed.runs (subst IsFaultless (sym closed.ends) sound_within) in
@@ -59,7 +59,7 @@ all_marked spans old new within end comes same bytes told sound few =
     let within_is : within ≡ end_of_bytes comes.bytes = sym closed.ends ∙ whole.ends in
     let taken : comes.outcome.taken ≡ comes.bytes = ap (λ (o : Outcome). o.taken) closed.all ∙ ap (λ l. closed.loop.taken ++ l) line.0 ∙ append-nil closed.loop.taken ∙ whole.reads in
     let out : comes.outcome.out ≡ marked_capture spans comes.bytes = ap (λ (o : Outcome). o.out) closed.all ∙ ap (λ l. closed.loop.out ++ l) line.1 ∙ append-nil closed.loop.out ∙ whole.writes in
-    let lines : comes.outcome.lines ≡ closing_line (end_of_bytes comes.bytes) = ap (λ (o : Outcome). o.lines) closed.all ∙ ap (λ l. l ++ closed.line.lines) whole.tells ∙ line.2 ∙ ap closing_line within_is in
+    let lines : comes.outcome.lines ≡ closing_line (end_of_bytes comes.bytes) = ap (λ (o : Outcome). o.lines) closed.all ∙ ap (λ l. l ++ closed.line.lines) whole.reports ∙ line.2 ∙ ap closing_line within_is in
     let moved : HaveMoved old new comes.bytes (marked_capture spans comes.bytes) (closing_line (end_of_bytes comes.bytes)) =
     subst (λ l. HaveMoved old new comes.bytes (marked_capture spans comes.bytes) l) lines
     (subst (λ l. HaveMoved old new comes.bytes l comes.outcome.lines) out

@@ -26,4 +26,4 @@ words_status words.NoMemory = status.NoMemory
 
 -- the line of an input, a line of which breaks a rule
 abbrev pub rule_line : List ℕ → ℕ → List ℕ → List ℕ
-rule_line front number cause = front ++ decimal number ++ codes ": " ++ cause ++ codes "\n"
+rule_line prefix number cause = prefix ++ decimal number ++ codes ": " ++ cause ++ codes "\n"

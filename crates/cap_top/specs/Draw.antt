@@ -42,4 +42,4 @@ draw_status NoMemory = status.NoMemory
 pub record Runs (most : ℕ) (source new_source out new_out : Seen) (SourceSame OutSame : Type 0) (report new_report : Seen) (result : Status) : Type 0 where
   pub end : DrawEnd
   pub draws : HasDrawn most source new_source out new_out SourceSame OutSame end
-  pub told : EndsWith (draw_status end) (draw_line end) report new_report result
+  pub reported : EndsWith (draw_status end) (draw_line end) report new_report result

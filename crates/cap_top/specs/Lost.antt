@@ -44,14 +44,14 @@ pub record HasMapped (layout : Layout) (zones : Zones) (old new : Streams) (resu
   pub reads : ReadsReport layout zones old.source new.source losses
   pub answer : Result (Unit {0}) WriteFault
   pub writes : IsWritten (map_text losses.extents losses.written (total_sectors layout)) old.output new.output answer
-  pub told : EndsWith (status_by answer) (line_by answer) old.report new.report result
+  pub reported : EndsWith (status_by answer) (line_by answer) old.report new.report result
 
 -- The report isn't read, and nothing is written.
 pub record HasRefused (layout : Layout) (zones : Zones) (Untouched : Type 0) (old new : Streams) (result : Status) : Type 0 where
   pub fault : ReportFault
   pub is_refused : IsReportRefused layout zones old.source new.source fault
   pub untouched : Untouched
-  pub told : EndsWith (refusal_status fault) (refusal_line fault) old.report new.report result
+  pub reported : EndsWith (refusal_status fault) (refusal_line fault) old.report new.report result
 
 -- a run of this layout
 abbrev pub HasRunByLayout : Layout → Zones → Type 0 → Streams → Streams → Status → Type 0
@@ -63,7 +63,7 @@ pub record HasBroken (settings : LostSettings) (Unread Untouched : Type 0) (old 
   pub breaks : broken_rule settings ≡ Some fault
   pub unread : Unread
   pub untouched : Untouched
-  pub told : EndsWith status.BadInput (setting_line fault) old.report new.report result
+  pub reported : EndsWith status.BadInput (setting_line fault) old.report new.report result
 
 -- it breaks none
 pub record HasRun (settings : LostSettings) (Untouched : Type 0) (old new : Streams) (result : Status) : Type 0 where

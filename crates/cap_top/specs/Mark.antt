@@ -48,7 +48,7 @@ pub record HasRefused (good : List ℕ) (old_map new_map : Seen) (Untouched : Ty
   pub refusal : MapRefusal
   pub is_refused : IsMapRefused good old_map new_map refusal
   pub untouched : Untouched
-  pub told : EndsWith (refusal_status refusal) (refusal_line refusal) old new result
+  pub reported : EndsWith (refusal_status refusal) (refusal_line refusal) old new result
 
 -- The map is read to its end, and the capture is marked by its spans.
 pub record HasRun (good : List ℕ) (old_map new_map : Seen) (old new : Streams) (result : Status) : Type 0 where

@@ -48,16 +48,16 @@ pub fn fixed_end(status: Status, text: &[u8]) -> RunEnd
     RunEnd { status, line }
 }
 
-/// The end of a run with an input, a line of which breaks a rule: `front` names the input, as `map: line `. No line
+/// The end of a run with an input, a line of which breaks a rule: `prefix` names the input, as `map: line `. No line
 /// feed is in the texts that it gets.
-pub fn rule_end(front: &[u8], number: u64, cause: &[u8]) -> RunEnd
-    requires front { length front.now ≤ 20 }
+pub fn rule_end(prefix: &[u8], number: u64, cause: &[u8]) -> RunEnd
+    requires prefix { length prefix.now ≤ 20 }
     requires cause { length cause.now ≤ 20 }
     ensures status { result.status ≡ Status.BadInput }
-    ensures line { result.line ≡ rule_line front.now number cause.now }
+    ensures line { result.line ≡ rule_line prefix.now number cause.now }
 {
     let mut line = Line::new();
-    line.put_named(front, number);
+    line.put_named(prefix, number);
     line.put(b": ");
     line.put(cause);
     line.put(b"\n");

@@ -36,8 +36,8 @@ data_written address user head check s1 s2 s3 s4 s5 s6 user_size check_size head
     ∙ ap (λ (l : List ℕ). (whole ++ l) ++ replicate 8 0) (check_is ∙ ap cd_edc_of user_there)
 
 -- lists that agree below a place begin alike
-pub same_front : (n : ℕ) (xs ys : List ℕ) → n ≤ length xs → n ≤ length ys → ((at : ℕ) → at < n → get_or xs at 0 ≡ get_or ys at 0) → take n xs ≡ take n ys
-same_front n xs ys xs_long ys_long each =
+pub same_prefix : (n : ℕ) (xs ys : List ℕ) → n ≤ length xs → n ≤ length ys → ((at : ℕ) → at < n → get_or xs at 0 ≡ get_or ys at 0) → take n xs ≡ take n ys
+same_prefix n xs ys xs_long ys_long each =
     same_number_lists (take n xs) (take n ys) (length-take-le n xs xs_long ∙ sym (length-take-le n ys ys_long))
     (λ k below. let within : k < n = omega (arith, length-take-le n xs xs_long) in
     get_or-take n xs k 0 within ∙ each k within ∙ sym (get_or-take n ys k 0 within))

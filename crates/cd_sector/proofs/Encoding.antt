@@ -19,11 +19,11 @@ word_right n word sector bytes size is right =
     subst (IsCodeword n 2) (sym is) (subst (λ (k : ℕ). IsCodeword k 2 (sector_word sector word)) (sym size) right)
 
 -- A word is encoded where it is: its front is as it was read, and its last two bytes are written.
-pub encoded_right : (n word p q : ℕ) (sector bytes behind whole : List ℕ) → n ≡ word_size word → 2 < n → word < 138
+pub encoded_right : (n word p q : ℕ) (sector bytes past whole : List ℕ) → n ≡ word_size word → 2 < n → word < 138
     → length bytes ≡ n - 2 → ((m : ℕ) → m < length bytes → get_or bytes m 0 ≡ get_or sector (sector_place word m) 0)
-    → IsEncoded n 2 (take (n - 2) (bytes ++ behind)) whole → p ≡ sector_place word (n - 2) → q ≡ sector_place word (n - 1) → p < length sector → q < length sector
+    → IsEncoded n 2 (take (n - 2) (bytes ++ past)) whole → p ≡ sector_place word (n - 2) → q ≡ sector_place word (n - 1) → p < length sector → q < length sector
     → IsRight (set (set sector p (get_or whole (n - 2) 0)) q (get_or whole (n - 1) 0)) word
-encoded_right n word p q sector bytes behind whole size some below front_size read encoded p_is q_is p_inside q_inside =
+encoded_right n word p q sector bytes past whole size some below prefix_size read encoded p_is q_is p_inside q_inside =
     right_word n word new whole size (whole_word new word whole (encoded.codeword.size ∙ size) each) encoded.codeword
   where
     x : ℕ
@@ -39,10 +39,10 @@ encoded_right n word p q sector bytes behind whole size some below front_size re
     other m not_p not_q =
         get_or-set_other (set sector p x) q (sector_place word m) y 0 not_q ∙ get_or-set_other sector p (sector_place word m) x 0 not_p
 
-    front : (m : ℕ) → m < n - 2 → get_or whole m 0 ≡ get_or sector (sector_place word m) 0
-    front m within =
+    prefix : (m : ℕ) → m < n - 2 → get_or whole m 0 ≡ get_or sector (sector_place word m) 0
+    prefix m within =
         sym (get_or-take (n - 2) whole m 0 within)
-        ∙ ap (λ (l : List ℕ). get_or l m 0) (encoded.begins ∙ take_at bytes behind (n - 2) front_size)
+        ∙ ap (λ (l : List ℕ). get_or l m 0) (encoded.begins ∙ take_at bytes past (n - 2) prefix_size)
         ∙ read m (omega arith)
 
     last : (m : ℕ) → m < n → (m < n - 1) ⊎ (n - 1 ≤ m) → n - 2 ≤ m → get_or whole m 0 ≡ get_or new (sector_place word m) 0
@@ -61,7 +61,7 @@ encoded_right n word p q sector bytes behind whole size some below front_size re
 
     either : (m : ℕ) → m < n → (m < n - 2) ⊎ (n - 2 ≤ m) → get_or whole m 0 ≡ get_or new (sector_place word m) 0
     either m within (inl covered) =
-        front m covered
+        prefix m covered
         ∙ sym (other m
         (λ same. distinct word m (n - 2) below covered (same ∙ p_is))
         (λ same. distinct word m (n - 1) below (omega arith) (same ∙ q_is)))

@@ -38,24 +38,24 @@ pub made_whole : (address : ℕ) (user sector : List ℕ) → IsSector address u
     → sector ≡ covered address user ++ (cd_edc_of (covered address user) ++ (replicate 8 0 ++ drop 2076 sector))
 unfolding data_part
 made_whole address user sector made =
-    let front : List ℕ = covered address user in
-    let edc : List ℕ = cd_edc_of front in
+    let prefix : List ℕ = covered address user in
+    let edc : List ℕ = cd_edc_of prefix in
     sym (take-append-drop 2076 sector) ∙ ap (λ (l : List ℕ). l ++ drop 2076 sector) made.begins
-    ∙ append_assoc (front ++ edc) (replicate 8 0) (drop 2076 sector) ∙ append_assoc front edc (replicate 8 0 ++ drop 2076 sector)
+    ∙ append_assoc (prefix ++ edc) (replicate 8 0) (drop 2076 sector) ∙ append_assoc prefix edc (replicate 8 0 ++ drop 2076 sector)
 
 -- a sector that was made for an address has no fault at this address
 pub faultless : (address : ℕ) (user sector : List ℕ) → length user ≡ 2048 → IsSector address user sector → IsRightSector sector address
 faultless address user sector size made =
-    let front : List ℕ = covered address user in
-    let edc : List ℕ = cd_edc_of front in
+    let prefix : List ℕ = covered address user in
+    let edc : List ℕ = cd_edc_of prefix in
     let rest : List ℕ = edc ++ (replicate 8 0 ++ drop 2076 sector) in
-    let whole : sector ≡ front ++ rest = made_whole address user sector made in
-    let behind : drop 2064 (front ++ rest) ≡ rest = drop_at front rest 2064 (omega (arith, length-covered address user)) in
+    let whole : sector ≡ prefix ++ rest = made_whole address user sector made in
+    let past : drop 2064 (prefix ++ rest) ≡ rest = drop_at prefix rest 2064 (omega (arith, length-covered address user)) in
     record {
       words = made.words;
       mode = ap (λ (l : List ℕ). get_or l 15 0) whole ∙ mode_of address user rest;
       header_is = ap (λ (l : List ℕ). take 3 (drop 12 l)) whole ∙ header_of address user rest;
-      edc = ap (λ (l : List ℕ). take 4 (drop 2064 l)) whole ∙ ap (λ (l : List ℕ). take 4 l) behind
-          ∙ take_at edc (replicate 8 0 ++ drop 2076 sector) 4 (length-cd_edc_of front)
+      edc = ap (λ (l : List ℕ). take 4 (drop 2064 l)) whole ∙ ap (λ (l : List ℕ). take 4 l) past
+          ∙ take_at edc (replicate 8 0 ++ drop 2076 sector) 4 (length-cd_edc_of prefix)
           ∙ sym (ap (λ (l : List ℕ). cd_edc_of (sync ++ take 2052 (drop 12 l))) whole ∙ ap cd_edc_of (behind_sync address user rest size));
     }

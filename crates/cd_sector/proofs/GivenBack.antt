@@ -44,15 +44,15 @@ by_word a b word m within same =
 -- a byte of a P word that was found is right after the first pass
 by_p : (sector read : List ℕ) (at : ℕ) → length read ≡ 2352 → 12 ≤ at → at < 2248 → IsFound sector read ((at - 12) % 86)
     → get_or (with_p_words read 86) at 0 ≡ get_or sector at 0
-by_p sector read at size behind before found =
+by_p sector read at size past before found =
     let word : ℕ = (at - 12) % 86 in
     let below : word < 86 = omega arith in
     let inside : (at - 12) / 86 < word_size word = omega (arith, word_size-p word below) in
     let same : sector_word (with_p_words read 86) word ≡ sector_word sector word =
     p_found read (sector_word sector word) 86 word size (omega arith) below (length-sector_word sector word) found.found in
-    ap (λ (k : ℕ). get_or (with_p_words read 86) k 0) (sym (p_place at behind))
+    ap (λ (k : ℕ). get_or (with_p_words read 86) k 0) (sym (p_place at past))
     ∙ by_word (with_p_words read 86) sector word ((at - 12) / 86) inside same
-    ∙ ap (λ (k : ℕ). get_or sector k 0) (p_place at behind)
+    ∙ ap (λ (k : ℕ). get_or sector k 0) (p_place at past)
 
 -- a Q word has 45 marks
 pub length-word_marks : (read : List ℕ) (word : ℕ) → length (word_marks read word) ≡ 45
@@ -150,7 +150,7 @@ of_half sector read half below low high = either (cases_lt half 1)
 -- sectors that have all Q words in common have all bytes after the sync in common
 pub all_bytes : (a b : List ℕ) → ((word : ℕ) → 86 ≤ word → word < 138 → sector_word a word ≡ sector_word b word)
     → (at : ℕ) → 12 ≤ at → at < 2352 → get_or a at 0 ≡ get_or b at 0
-all_bytes a b same at behind inside = either (cases_lt at 2248)
+all_bytes a b same at past inside = either (cases_lt at 2248)
   where
     moved : (word m : ℕ) → 86 ≤ word → word < 138 → m < 45 → sector_place word m ≡ at → get_or a at 0 ≡ get_or b at 0
     moved word m above below within is =
@@ -164,7 +164,7 @@ all_bytes a b same at behind inside = either (cases_lt at 2248)
 
     either : (at < 2248) ⊎ (2248 ≤ at) → get_or a at 0 ≡ get_or b at 0
     either (inl before) =
-        moved (q_word at) ((at - 12) / 2 % 43) ((q_word-within at).0) ((q_word-within at).1) (omega arith) (q_place at behind before)
+        moved (q_word at) ((at - 12) / 2 % 43) ((q_word-within at).0) ((q_word-within at).1) (omega arith) (q_place at past before)
     either (inr from) =
         moved own row (omega arith) (omega arith) (omega arith) (omega (arith, sector_place-own own row (omega arith) (omega arith)))
 
@@ -173,8 +173,8 @@ begins_with_sync : (address : ℕ) (user sector : List ℕ) → IsSector address
 unfolding data_part covered
 begins_with_sync address user sector made =
     let whole : data_part address user ++ drop 2076 sector ≡ sector = ap (λ (l : List ℕ). l ++ drop 2076 sector) (sym made.begins) ∙ take-append-drop 2076 sector in
-    let front : take 12 sector ≡ sync = ap (λ (l : List ℕ). take 12 l) (sym whole) in
-    ap (λ (l : List ℕ). l ++ drop 12 sector) (sym front) ∙ take-append-drop 12 sector
+    let prefix : take 12 sector ≡ sync = ap (λ (l : List ℕ). take 12 l) (sym whole) in
+    ap (λ (l : List ℕ). l ++ drop 12 sector) (sym prefix) ∙ take-append-drop 12 sector
 
 -- Damage that the words can correct is repaired.
 pub given_back : (address : ℕ) (user sector read : List ℕ) → IsSector address user sector → length read ≡ 2352
@@ -188,9 +188,9 @@ given_back address user sector read made size low high =
     let words : (word : ℕ) → 86 ≤ word → word < 138 → sector_word whole word ≡ sector_word sector word = λ word above below.
     q_found read first_pass (sector_word sector word) 52 word first_size (omega arith) above below (length-sector_word sector word)
     (q_correctable sector read word size made.words above below (of_half sector read (word % 2) (omega arith) low high)) in
-    let behind : drop 12 whole ≡ drop 12 sector =
+    let past : drop 12 whole ≡ drop 12 sector =
     same_number_lists (drop 12 whole) (drop 12 sector) (omega (arith, length-drop 12 whole, length-drop 12 sector, whole_size, made.size))
     (λ k inside. get_or-drop 12 whole k 0
     ∙ all_bytes whole sector words (12 + k) (omega arith) (omega (arith, length-drop 12 whole, whole_size))
     ∙ sym (get_or-drop 12 sector k 0)) in
-    ap (λ (l : List ℕ). sync ++ l) behind ∙ begins_with_sync address user sector made
+    ap (λ (l : List ℕ). sync ++ l) past ∙ begins_with_sync address user sector made

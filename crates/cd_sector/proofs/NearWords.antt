@@ -122,7 +122,7 @@ pub marks_told : (read : List ℕ) (word : ℕ) (lost marks : List Bool) → len
     → ((m : ℕ) → m < 43 → get_or marks m false ≡ get_or lost ((sector_place word m - 12) % 86) false) → ((m : ℕ) → 43 ≤ m → get_or marks m false ≡ false)
     → marks ≡ word_marks read word
 unfolding word_marks
-marks_told read word lost marks size lost_are told rest =
+marks_told read word lost marks size lost_are said rest =
     ext_get_or false marks (word_marks read word) (size ∙ sym length_is)
     (λ m below. let within : m < 45 = omega arith in
     either m (cases_lt m 43) ∙ sym (get_or-map-range_with_len mark 0 45 m m false within (zero-add m)))
@@ -135,7 +135,7 @@ marks_told read word lost marks size lost_are told rest =
 
     either : (m : ℕ) → (m < 43) ⊎ (43 ≤ m) → get_or marks m false ≡ mark m
     either m (inl below) =
-        told m below ∙ lost_are ((sector_place word m - 12) % 86) (omega arith) ∙ sym (marked m (is_lost read ((sector_place word m - 12) % 86)) below)
+        said m below ∙ lost_are ((sector_place word m - 12) % 86) (omega arith) ∙ sym (marked m (is_lost read ((sector_place word m - 12) % 86)) below)
     either m (inr own) = rest m own ∙ sym (unmarked m (is_lost read ((sector_place word m - 12) % 86)) own)
 
 -- no place of a list without marks has one, nor any after it

@@ -49,11 +49,11 @@ same_p address user a b is_a is_b word below =
 -- and with them the same bytes up to the Q parity
 same_covered : (address : ℕ) (user a b : List ℕ) → IsSector address user a → IsSector address user b → (at : ℕ) → 12 ≤ at → at < 2248
     → get_or a at 0 ≡ get_or b at 0
-same_covered address user a b is_a is_b at behind before =
+same_covered address user a b is_a is_b at past before =
     let word : ℕ = (at - 12) % 86 in
     let below : word < 86 = omega arith in
     let inside : (at - 12) / 86 < word_size word = omega (arith, word_size-p word below) in
-    subst (λ (k : ℕ). get_or a k 0 ≡ get_or b k 0) (p_place at behind)
+    subst (λ (k : ℕ). get_or a k 0 ≡ get_or b k 0) (p_place at past)
     (by_word a b word ((at - 12) / 86) inside (same_p address user a b is_a is_b word below))
 
 -- and the same Q words
@@ -69,8 +69,8 @@ pub one_sector : (address : ℕ) (user a b : List ℕ) → IsSector address user
 one_sector address user a b is_a is_b = same_number_lists a b (is_a.size ∙ sym is_b.size) (λ at inside. either at (omega (arith, is_a.size)) (cases_lt at 12))
   where
     either : (at : ℕ) → at < 2352 → (at < 12) ⊎ (12 ≤ at) → get_or a at 0 ≡ get_or b at 0
-    either at inside (inl front) = same_data address user a b is_a is_b at (omega arith)
-    either at inside (inr behind) = all_bytes a b (same_q address user a b is_a is_b) at behind inside
+    either at inside (inl first) = same_data address user a b is_a is_b at (omega arith)
+    either at inside (inr past) = all_bytes a b (same_q address user a b is_a is_b) at past inside
 
 -- a sector without fault has no cause
 pub no_cause : (sector : List ℕ) (address : ℕ) (cause : CdCause) → IsRightSector sector address → IsCause sector address cause → ⊥

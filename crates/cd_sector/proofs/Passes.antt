@@ -72,8 +72,8 @@ beside_p read (suc n) at within beside =
     ∙ beside_p read n at (omega arith) beside
   where
     apart : (m : ℕ) → m < word_size n → at ≡ sector_place n m → (at < 12) ⊎ (2248 ≤ at) → ⊥
-    apart m inside same (inl front) = omega (arith, same, sector_place-p n m (omega arith))
-    apart m inside same (inr behind) = omega (arith, same, sector_place-p n m (omega arith), word_size-p n (omega arith))
+    apart m inside same (inl first) = omega (arith, same, sector_place-p n m (omega arith))
+    apart m inside same (inr past) = omega (arith, same, sector_place-p n m (omega arith), word_size-p n (omega arith))
 
 -- a P word with a near codeword becomes it
 pub p_found : (read bytes : List ℕ) (n word : ℕ) → length read ≡ 2352 → n ≤ 86 → word < n → length bytes ≡ word_size word

@@ -116,9 +116,9 @@ all_kept sector size right =
 
 -- after another sync all bytes are the same
 behind_sync : (sector : List ℕ) (at : ℕ) → 12 ≤ at → get_or (sync ++ drop 12 sector) at 0 ≡ get_or sector at 0
-behind_sync sector at behind =
+behind_sync sector at past =
     let there : 12 + (at - 12) ≡ at = omega arith in
-    get_or-append_right sync (drop 12 sector) 12 at 0 refl behind ∙ get_or-drop 12 sector (at - 12) 0 ∙ ap (λ (k : ℕ). get_or sector k 0) there
+    get_or-append_right sync (drop 12 sector) 12 at 0 refl past ∙ get_or-drop 12 sector (at - 12) 0 ∙ ap (λ (k : ℕ). get_or sector k 0) there
 
 -- so a word is right with another sync
 pub sync_right : (sector : List ℕ) (word : ℕ) → word < 138 → IsRight sector word → IsRight (sync ++ drop 12 sector) word
@@ -131,9 +131,9 @@ sync_wrong sector word below =
     kept_right (sync ++ drop 12 sector) sector word (λ m within. sym (behind_sync sector (sector_place word m) ((sector_place-inside word m below within).0)))
 
 -- what the two passes leave, and the sync set, is the repaired sector
-pub repaired_words : (read front whole : List ℕ) → front ≡ sync → whole ≡ with_q_words read (with_p_words read 86) 52 → front ++ drop 12 whole ≡ repaired read
+pub repaired_words : (read prefix whole : List ℕ) → prefix ≡ sync → whole ≡ with_q_words read (with_p_words read 86) 52 → prefix ++ drop 12 whole ≡ repaired read
 unfolding repaired
-repaired_words read front whole front_is is = ap₂ (λ (f w : List ℕ). f ++ drop 12 w) front_is is
+repaired_words read prefix whole prefix_is is = ap₂ (λ (f w : List ℕ). f ++ drop 12 w) prefix_is is
 
 -- a word that is still wrong is the cause
 pub parity_cause : (read whole : List ℕ) (word address : ℕ) → whole ≡ with_q_words read (with_p_words read 86) 52

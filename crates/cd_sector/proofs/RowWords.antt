@@ -40,7 +40,7 @@ column_right sector rows word j size same =
 pub twice_place : (bytes whole : List ℕ) (at : ℕ) → length bytes ≡ 2236 → whole ≡ bytes ++ bytes → at < 4472 → get_or whole at 0 ≡ get_or bytes (at % 2236) 0
 twice_place bytes whole at size is below =
     elim (cases_lt at 2236) [
-      | inl front ↦ ap (λ (l : List ℕ). get_or l at 0) is ∙ get_or_append_left bytes bytes 0 at (omega arith) ∙ ap (λ (k : ℕ). get_or bytes k 0) (omega arith)
+      | inl first ↦ ap (λ (l : List ℕ). get_or l at 0) is ∙ get_or_append_left bytes bytes 0 at (omega arith) ∙ ap (λ (k : ℕ). get_or bytes k 0) (omega arith)
       | inr back ↦
           ap (λ (l : List ℕ). get_or l at 0) is ∙ get_or-append_right bytes bytes 2236 at 0 size back ∙ ap (λ (k : ℕ). get_or bytes k 0) (omega arith)
     ]
@@ -114,17 +114,17 @@ pub encoded_word : (sector : List ℕ) (rows : List (List ℕ)) (n word j p q : 
     → ((m : ℕ) → m < n → place rows m j ≡ get_or sector (sector_place word m) 0)
     → p ≡ get_or sector (sector_place word n) 0 → q ≡ get_or sector (sector_place word (n + 1)) 0
     → IsCodeword (length rows + 2) 2 (column rows j ++ p ∷ q ∷ []) → IsRight sector word
-encoded_word sector rows n word j p q many size front p_is q_is codeword =
+encoded_word sector rows n word j p q many size first p_is q_is codeword =
     right_word (length rows + 2) word sector whole (omega arith) (whole_word sector word whole (long ∙ omega arith) each) codeword
   where
-    front_long : length (column rows j) ≡ n
-    front_long = length-column rows j ∙ many
+    prefix_long : length (column rows j) ≡ n
+    prefix_long = length-column rows j ∙ many
 
     whole : List ℕ
     whole = column rows j ++ p ∷ q ∷ []
 
     long : length whole ≡ n + 2
-    long = omega (arith, length-append (column rows j) (p ∷ q ∷ []), front_long)
+    long = omega (arith, length-append (column rows j) (p ∷ q ∷ []), prefix_long)
 
     last : (k : ℕ) → k < 2 → get_or (p ∷ q ∷ []) k 0 ≡ get_or sector (sector_place word (n + k)) 0
     last zero below = p_is ∙ ap (λ (m : ℕ). get_or sector (sector_place word m) 0) (omega arith)
@@ -134,10 +134,10 @@ encoded_word sector rows n word j p q many size front p_is q_is codeword =
     each : (m : ℕ) → m < length whole → get_or whole m 0 ≡ get_or sector (sector_place word m) 0
     each m inside =
         elim (cases_lt m n) [
-          | inl early ↦ get_or_append_left (column rows j) (p ∷ q ∷ []) 0 m (omega (arith, front_long)) ∙ get_or-column rows j m ∙ front m early
+          | inl early ↦ get_or_append_left (column rows j) (p ∷ q ∷ []) 0 m (omega (arith, prefix_long)) ∙ get_or-column rows j m ∙ first m early
           | inr late ↦
               let is : n + (m - n) ≡ m = omega arith in
-              get_or-append_right (column rows j) (p ∷ q ∷ []) n m 0 front_long late
+              get_or-append_right (column rows j) (p ∷ q ∷ []) n m 0 prefix_long late
               ∙ last (m - n) (omega (arith, long))
               ∙ ap (λ (k : ℕ). get_or sector (sector_place word k) 0) is
         ]

@@ -16,7 +16,7 @@ use Rattle.cd_sector.proofs.Places.{word_size-p, word_size-q, sector_place-p, se
 use Rattle.cd_sector.proofs.Encoding.{encoded_right}
 use Rattle.cd_sector.proofs.Spread.{apart-p, apart-qq, sector_place-inside}
 use Rattle.cd_sector.proofs.Faultless.{length-cd_edc_of, length-covered}
-use Rattle.cd_sector.proofs.Assembly.{same_front, all_words}
+use Rattle.cd_sector.proofs.Assembly.{same_prefix, all_words}
 
 -- a sector with these words encoded, and nothing changed below a place
 pub record IsEncodedTo (from count limit : ℕ) (old sector : List ℕ) : Type 0 where
@@ -88,7 +88,7 @@ one_more word old below some size bytes = (
 record AreApart (from count limit : ℕ) : Type 0 where
   pub few : from + count ≤ 138
   pub some : (n : ℕ) → from ≤ n → n < from + count → 2 < word_size n
-  pub behind : (n m : ℕ) → from ≤ n → n < from + count → word_size n ≤ m + 2 → limit ≤ sector_place n m
+  pub past : (n m : ℕ) → from ≤ n → n < from + count → word_size n ≤ m + 2 → limit ≤ sector_place n m
   pub apart : (v n m k : ℕ) → from ≤ v → v < n → n < from + count → sector_place v m ≢ sector_place n k
 
 -- the P words
@@ -96,7 +96,7 @@ p_words : AreApart 0 86 2076
 p_words = record {
   few = omega arith;
   some = λ n _ below. omega (arith, word_size-p n below);
-  behind = λ n m _ below last. omega (arith, last, word_size-p n below, sector_place-p n m below);
+  past = λ n m _ below last. omega (arith, last, word_size-p n below, sector_place-p n m below);
   apart = λ v n m k _ before below. apart-p v n m k (omega arith) below (omega (arith, before));
 }
 
@@ -105,7 +105,7 @@ q_words : AreApart 86 52 2248
 q_words = record {
   few = omega arith;
   some = λ n above _. omega (arith, word_size-q n above);
-  behind = λ n m above _ last.
+  past = λ n m above _ last.
       let own : 43 ≤ m = omega (arith, last, word_size-q n above) in omega (arith, sector_place-own n m above own);
   apart = λ v n m k above before below. apart-qq v n m k above (omega arith) (omega arith) below (omega (arith, before));
 }
@@ -130,8 +130,8 @@ words_encoded from most limit words old (suc k) within size bytes = next (words_
             size = one.size;
             bytes = one.bytes;
             kept = λ at before. one.kept at
-                (λ same. omega (arith, same, words.behind n (word_size n - 2) (omega arith) (omega arith) (omega arith)))
-                (λ same. omega (arith, same, words.behind n (word_size n - 1) (omega arith) (omega arith) (omega arith)))
+                (λ same. omega (arith, same, words.past n (word_size n - 2) (omega arith) (omega arith) (omega arith)))
+                (λ same. omega (arith, same, words.past n (word_size n - 1) (omega arith) (omega arith) (omega arith)))
                 ∙ is.kept at before;
             right = λ word above below. each word above below (cases_lt word n);
           },
@@ -180,9 +180,9 @@ some_sector address user below size bytes = (
   q_done.0,
   record {
     size = q_done.1.size;
-    begins = same_front 2076 q_done.0 start (omega (arith, q_done.1.size)) (omega (arith, start_size))
+    begins = same_prefix 2076 q_done.0 start (omega (arith, q_done.1.size)) (omega (arith, start_size))
         (λ at before. q_done.1.kept at (omega arith) ∙ p_done.1.kept at before)
-        ∙ take_at front (replicate 276 0) 2076 front_size;
+        ∙ take_at prefix (replicate 276 0) 2076 prefix_size;
     words = all_words (IsRight q_done.0)
         (λ word p. kept_right p_done.0 q_done.0 word
         (λ m inside. q_done.1.kept (sector_place word m) (omega (arith, sector_place-p word m p, word_size-p word p))) (p_done.1.right word (omega arith) (omega arith)))
@@ -190,14 +190,14 @@ some_sector address user below size bytes = (
   },
 )
   where
-    front : List ℕ
-    front = data_part address user
+    prefix : List ℕ
+    prefix = data_part address user
 
     start : List ℕ
-    start = front ++ replicate 276 0
+    start = prefix ++ replicate 276 0
 
-    front_size : length front ≡ 2076
-    front_size = omega (
+    prefix_size : length prefix ≡ 2076
+    prefix_size = omega (
       arith,
       length-append (covered address user ++ cd_edc_of (covered address user)) (replicate 8 0),
       length-append (covered address user) (cd_edc_of (covered address user)),
@@ -206,10 +206,10 @@ some_sector address user below size bytes = (
     )
 
     start_size : length start ≡ 2352
-    start_size = omega (arith, length-append front (replicate 276 0), front_size, length-replicate {A = ℕ} 276 0)
+    start_size = omega (arith, length-append prefix (replicate 276 0), prefix_size, length-replicate {A = ℕ} 276 0)
 
     start_bytes : All IsByte start
-    start_bytes = All-append IsByte front (replicate 276 0)
+    start_bytes = All-append IsByte prefix (replicate 276 0)
         (All-append IsByte (covered address user ++ cd_edc_of (covered address user)) (replicate 8 0)
         (All-append IsByte (covered address user) (cd_edc_of (covered address user)) (bytes-covered address user below bytes) (bytes-cd_edc_of (covered address user)))
         (All-replicate IsByte 8 0 (omega arith)))

@@ -81,7 +81,7 @@ sector_place-inside word m below within = either (cases_lt word 86)
 
 -- a byte is at this place of its P word
 pub p_place : (at : ℕ) → 12 ≤ at → sector_place ((at - 12) % 86) ((at - 12) / 86) ≡ at
-p_place at behind = omega (arith, sector_place-p ((at - 12) % 86) ((at - 12) / 86) (omega arith))
+p_place at past = omega (arith, sector_place-p ((at - 12) % 86) ((at - 12) / 86) (omega arith))
 
 -- the number of the Q word that a byte before the Q parity is in
 unfoldable pub q_word : ℕ → ℕ
@@ -90,7 +90,7 @@ q_word at = 86 + 2 * (((at - 12) / 86 + 52 - (at - 12) / 2 % 43) % 26) + at % 2
 -- a byte before the Q parity is at this place of its Q word
 pub q_place : (at : ℕ) → 12 ≤ at → at < 2248 → sector_place (q_word at) ((at - 12) / 2 % 43) ≡ at
 unfolding q_word
-q_place at behind before =
+q_place at past before =
     let row : ℕ = (at - 12) / 86 in
     let m : ℕ = (at - 12) / 2 % 43 in
     let n : ℕ = (row + 52 - m) % 26 in

@@ -1,6 +1,6 @@
 -- Worked values from outside the program.
 use Rattle.std.specs.Prelude.{◌≡◌, [], ◌∷◌, refl}
-use Rattle.coding.specs.BitDivision.{plus_front, remainder_by}
+use Rattle.coding.specs.BitDivision.{plus_prefix, remainder_by}
 use Rattle.cd_sector.specs.Bits.{rising_bits, rising_bits_of, rising_number}
 use Rattle.cd_sector.specs.Edc.{cd_edc_of}
 use Rattle.cd_sector.specs.Sector.{header}
@@ -8,7 +8,7 @@ use Rattle.cd_sector.specs.Words.{sector_place}
 
 -- the EDC of one byte 80, the least significant byte first
 edc-80 : cd_edc_of (0x80 ∷ []) ≡ 0x01 ∷ 0x80 ∷ 0x01 ∷ 0xD8 ∷ []
-unfolding cd_edc_of remainder_by plus_front rising_bits_of rising_bits rising_number
+unfolding cd_edc_of remainder_by plus_prefix rising_bits_of rising_bits rising_number
 edc-80 = refl
 
 -- the first sector after the pause of two seconds: minute 0, second 2, frame 0

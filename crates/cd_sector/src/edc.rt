@@ -21,10 +21,10 @@ pub fn cd_edc(bytes: &[u8]) -> [u8; 4]
 
 /// The EDC of two lists of bytes, as if the second followed the first. So the sync can be put before a sector's other
 /// bytes without a copy.
-pub(crate) fn edc_of_parts(front: &[u8], back: &[u8]) -> [u8; 4]
-    ensures { result ≡ cd_edc_of (front.now ++ back.now) }
+pub(crate) fn edc_of_parts(prefix: &[u8], back: &[u8]) -> [u8; 4]
+    ensures { result ≡ cd_edc_of (prefix.now ++ back.now) }
 {
-    with_bytes(with_bytes(0, front), back).to_le_bytes()
+    with_bytes(with_bytes(0, prefix), back).to_le_bytes()
 }
 
 // The register after these bytes are read. Sixteen are read at once, of which only the first four wait for the
@@ -56,7 +56,7 @@ fn with_chunk(register: u32, chunk: [u8; 16]) -> u32
     ensures { result ≡ after_reading chunk register }
 {
     let [first, second, third, fourth] = register.to_le_bytes();
-    let front = remainder_of_first([
+    let prefix = remainder_of_first([
         chunk[0] ^ first,
         chunk[1] ^ second,
         chunk[2] ^ third,
@@ -64,7 +64,7 @@ fn with_chunk(register: u32, chunk: [u8; 16]) -> u32
     ]) ^ remainder_of_second([chunk[4], chunk[5], chunk[6], chunk[7]]);
     let back = remainder_of_third([chunk[8], chunk[9], chunk[10], chunk[11]])
         ^ remainder_of_fourth([chunk[12], chunk[13], chunk[14], chunk[15]]);
-    front ^ back
+    prefix ^ back
 }
 
 // Reads one byte: its sum with the lowest eight bits of the register is divided, and what the division leaves is added

@@ -50,7 +50,7 @@ fn digits(number: u32) -> u8
 // what comes before a part.
 fn set_data(address: u32, user: &[u8; 2048], out: &mut [u8; 2352])
     requires { address < 450000 }
-    ensures front { take 2076 out.new ≡ data_part address user.now }
+    ensures prefix { take 2076 out.new ≡ data_part address user.now }
     ensures size { length out.new ≡ 2352 }
 {
     put(out, 0, &SYNC);

@@ -85,9 +85,9 @@ pub(crate) fn remainder_of_first(word: [u8; 4]) -> u32
 fn remainder_by(tables: &[[u32; 256]; 4], word: [u8; 4]) -> u32
     ensures { (n : ℕ) → tables.now ≡ tables_from n → result ≡ after_word n word }
 {
-    let front = entry(&tables[3], word[0]) ^ entry(&tables[2], word[1]);
+    let upper = entry(&tables[3], word[0]) ^ entry(&tables[2], word[1]);
     let back = entry(&tables[1], word[2]) ^ entry(&tables[0], word[3]);
-    front ^ back
+    upper ^ back
 }
 
 // An entry of a table of what a fixed number of steps leave of each byte. Its contract is of any such table, and each

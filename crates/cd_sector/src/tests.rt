@@ -31,11 +31,11 @@ fn parity_of_a_word(rt: HostRuntime) {
 fn a_sector_of_zeros(rt: HostRuntime) {
     let mut sector = [0; 2352];
     make(150, &[0; 2048], &mut sector);
-    let front = [
+    let prefix = [
         0x00, 0xFF, 0xFF, 0xFF, 0xFF, 0xFF, 0xFF, 0xFF, 0xFF, 0xFF, 0xFF, 0x00, 0x00, 0x02, 0x00,
         0x01,
     ];
-    assert!(rt; sector.starts_with(&front));
+    assert!(rt; sector.starts_with(&prefix));
     assert_eq!(rt; &sector[2064..2068], [0xC5, 0x13, 0x68, 0x2B].as_slice());
     assert_eq!(rt; Sha256::digest(&sector), ZEROS);
 }

@@ -12,14 +12,14 @@ use Rattle.dvd_layout.specs.Plan.{plan_of}
 use Rattle.dvd_layout.specs.declared.layout.Layout.{Layout}
 use Rattle.dvd_layout.specs.declared.layout.Zones.TheVariants.{DataOnly}
 use Rattle.dvd_merge.specs.Join.{Table, join_tables, joined, unseen}
-use Rattle.dvd_assemble.specs.Assembled.{assembled, frame_table, settled, table_for, told_of, with_frame}
+use Rattle.dvd_assemble.specs.Assembled.{assembled, frame_table, settled, table_for, table_of_frame, with_frame}
 use Rattle.dvd_assemble.specs.Frames.{Frame}
 use Rattle.dvd_assemble.specs.Home.{home}
 use Rattle.dvd_assemble.proofs.Tables.{IsShaped, by_table, join_none, joined-more, joined-shaped, length-frame_table, length-unseen}
 
 -- what all these frames say of block k
 abbrev pub block_at : Layout → List Frame → ℕ → Table
-block_at layout frames k = joined (map (told_of layout k) frames)
+block_at layout frames k = joined (map (table_of_frame layout k) frames)
 
 -- there is a block for each of the plan
 pub length-assembled : (layout : Layout) (frames : List Frame) → length (assembled layout frames) ≡ length (plan_of layout DataOnly)
@@ -37,8 +37,8 @@ abbrev told_by : ℕ → Frame → Option ℕ → Table
 told_by k frame place = option_map_or (table_for k frame) place unseen
 
 -- what a frame says of a block depends on the frame's home alone
-told-by : (layout : Layout) (k : ℕ) (frame : Frame) → told_of layout k frame ≡ told_by k frame (home layout frame)
-unfolding told_of
+told-by : (layout : Layout) (k : ℕ) (frame : Frame) → table_of_frame layout k frame ≡ told_by k frame (home layout frame)
+unfolding table_of_frame
 told-by layout k frame = refl
 
 -- the blocks with one frame more, by the home that it has
@@ -60,12 +60,12 @@ length-told_by k frame (Some n) = by_block (eqb_tells (n / 16) k)
     by_block (inr elsewhere) = rw elsewhere.0 length-unseen
 
 -- and so for each frame
-pub length-told_of : (layout : Layout) (k : ℕ) (frame : Frame) → length (told_of layout k frame) ≡ 208
-length-told_of layout k frame = ap length (told-by layout k frame) ∙ length-told_by k frame (home layout frame)
+pub length-table_of_frame : (layout : Layout) (k : ℕ) (frame : Frame) → length (table_of_frame layout k frame) ≡ 208
+length-table_of_frame layout k frame = ap length (told-by layout k frame) ∙ length-told_by k frame (home layout frame)
 
 -- a block of frames has 208 rows of at most 182 places
 shaped : (layout : Layout) (frames : List Frame) (k : ℕ) → IsShaped (block_at layout frames k)
-shaped layout frames k = joined-shaped (told_of layout k) (length-told_of layout k) frames
+shaped layout frames k = joined-shaped (table_of_frame layout k) (length-table_of_frame layout k) frames
 
 -- a frame that is joined leaves as many blocks as there were
 length-settled_by : (tables : List Table) (frame : Frame) (place : Option ℕ) → length (settled_by tables frame place) ≡ length tables
@@ -106,7 +106,7 @@ one_more layout frames frame =
         (subst IsShaped (sym here) (shaped layout frames k))
         ∙ ap (λ table. join_tables table (told_by k frame (home layout frame))) here
         ∙ ap (join_tables (block_at layout frames k)) (sym (told-by layout k frame))
-        ∙ sym (joined-more (told_of layout k) frames frame)
+        ∙ sym (joined-more (table_of_frame layout k) frames frame)
         ∙ sym (assembled-at layout (frames ++ frame ∷ []) k unseen within)
 
 -- no frame
@@ -134,6 +134,6 @@ pub same_set : (layout : Layout) (a b : List Frame) → ((frame : Frame) → Con
 unfolding assembled joined
 same_set layout a b same =
     map_same (block_at layout a) (block_at layout b)
-    (λ k. same_members join_tables tables-comm tables-assoc tables-idem unseen (map (told_of layout k) a) (map (told_of layout k) b)
-    (λ table. (told_member (told_of layout k) a b (λ x. (same x).0) table, told_member (told_of layout k) b a (λ x. (same x).1) table)))
+    (λ k. same_members join_tables tables-comm tables-assoc tables-idem unseen (map (table_of_frame layout k) a) (map (table_of_frame layout k) b)
+    (λ table. (told_member (table_of_frame layout k) a b (λ x. (same x).0) table, told_member (table_of_frame layout k) b a (λ x. (same x).1) table)))
     (range_with_len 0 (length (plan_of layout DataOnly)))

@@ -54,41 +54,41 @@ length-plan layout =
     ∙ omega (arith, length-entries_of (first_data layout), length-entries_of (second_data layout))
 
 -- block k of the plan is in one of the zones
-abbrev pub StandsAt : Layout → ℕ → BlockPlan → Type 0
-StandsAt layout k entry =
+abbrev pub IsEntryAt : Layout → ℕ → BlockPlan → Type 0
+IsEntryAt layout k entry =
     ((entry.layer ≡ 0) × (k < blocks_of layout.sectors0) × (entry.first ≡ 0x30000 + 16 * k))
     ⊎ ((entry.layer ≡ 1) × (blocks_of layout.sectors0 ≤ k) × (entry.first ≡ second_first layout + 16 * (k - blocks_of layout.sectors0)))
 
 -- each block of the plan is in the Data Zone of its layer, at the sector number that its place gives
-pub stands_at : (layout : Layout) (k : ℕ) (d : BlockPlan) → k < length (plan_of layout DataOnly) → StandsAt layout k (get_or (plan_of layout DataOnly) k d)
-stands_at layout k d within = by_side (cases_lt k (blocks_of layout.sectors0))
+pub is_entry_at : (layout : Layout) (k : ℕ) (d : BlockPlan) → k < length (plan_of layout DataOnly) → IsEntryAt layout k (get_or (plan_of layout DataOnly) k d)
+is_entry_at layout k d within = by_side (cases_lt k (blocks_of layout.sectors0))
   where
-    front : List BlockPlan
-    front = entries_of (first_data layout)
+    prefix : List BlockPlan
+    prefix = entries_of (first_data layout)
 
     back : List BlockPlan
     back = entries_of (second_data layout)
 
-    fronts : length front ≡ blocks_of layout.sectors0
-    fronts = length-entries_of (first_data layout)
+    prefix_size : length prefix ≡ blocks_of layout.sectors0
+    prefix_size = length-entries_of (first_data layout)
 
-    here : get_or (plan_of layout DataOnly) k d ≡ get_or (front ++ back) k d
+    here : get_or (plan_of layout DataOnly) k d ≡ get_or (prefix ++ back) k d
     here = ap (λ l. get_or l k d) (data_plan layout)
 
-    by_side : (k < blocks_of layout.sectors0) ⊎ (blocks_of layout.sectors0 ≤ k) → StandsAt layout k (get_or (plan_of layout DataOnly) k d)
+    by_side : (k < blocks_of layout.sectors0) ⊎ (blocks_of layout.sectors0 ≤ k) → IsEntryAt layout k (get_or (plan_of layout DataOnly) k d)
     by_side (inl less) =
-        let is : get_or (front ++ back) k d ≡ entry_of (first_data layout) k =
-        get_or_append_left front back d k (omega (arith, fronts, less))
+        let is : get_or (prefix ++ back) k d ≡ entry_of (first_data layout) k =
+        get_or_append_left prefix back d k (omega (arith, prefix_size, less))
         ∙ get_or-map-range_with_len (entry_of (first_data layout)) 0 (blocks_of layout.sectors0) k k d less (omega arith) in
-        subst (StandsAt layout k) (sym (here ∙ is)) (inl (refl, less, refl))
+        subst (IsEntryAt layout k) (sym (here ∙ is)) (inl (refl, less, refl))
     by_side (inr more) =
         let b : ℕ = k - blocks_of layout.sectors0 in
         let whole = length-plan layout in
-        let behind : length front + b ≡ k = omega (arith, fronts, more) in
-        let is : get_or (front ++ back) k d ≡ entry_of (second_data layout) b =
-        ap (λ n. get_or (front ++ back) n d) (sym behind) ∙ get_or-append-add front back b d
+        let offset : length prefix + b ≡ k = omega (arith, prefix_size, more) in
+        let is : get_or (prefix ++ back) k d ≡ entry_of (second_data layout) b =
+        ap (λ n. get_or (prefix ++ back) n d) (sym offset) ∙ get_or-append-add prefix back b d
         ∙ get_or-map-range_with_len (entry_of (second_data layout)) 0 (blocks_of layout.sectors1) b b d (omega (arith, whole, within, more)) (omega arith) in
-        subst (StandsAt layout k) (sym (here ∙ is)) (inr (refl, more, refl))
+        subst (IsEntryAt layout k) (sym (here ∙ is)) (inr (refl, more, refl))
 
 -- pieces of sixteen elements
 module _ {X A : Type 0} (f : X → List A) (sixteen : (x : X) → length (f x) ≡ 16) where
@@ -160,9 +160,9 @@ some_entry = record { first = 0; area = DataZone; layer = 0; content = Zero }
 
 -- the numbers and the layer of each block of the plan fit in an ID
 pub has_numbers : (layout : Layout) (k : ℕ) (entry : BlockPlan) → slice_get (plan_of layout DataOnly) k ≡ Some entry → HasNumbers entry
-has_numbers layout k entry stands =
-    subst HasNumbers (get_or_from_slice_get (plan_of layout DataOnly) k entry entry stands)
-    (plan_of-numbers layout DataOnly k entry (slice_get_within (plan_of layout DataOnly) k entry stands))
+has_numbers layout k entry is_there =
+    subst HasNumbers (get_or_from_slice_get (plan_of layout DataOnly) k entry entry is_there)
+    (plan_of-numbers layout DataOnly k entry (slice_get_within (plan_of layout DataOnly) k entry is_there))
 
 -- the frame of number n has the place of this word
 abbrev pub IsAt : Layout → ℕ → ℕ → Type 0
@@ -180,7 +180,7 @@ Sides layout word n =
 
 -- a frame with the place of a word is in the Data Zone of the word's layer, as far after its first as the word says
 pub sides : (layout : Layout) (word n : ℕ) → IsAt layout word n → Sides layout word n
-sides layout word n at = by_zone (stands_at layout k some_entry within)
+sides layout word n at = by_zone (is_entry_at layout k some_entry within)
   where
     k : ℕ
     k = n / 16
@@ -215,36 +215,36 @@ sides layout word n at = by_zone (stands_at layout k some_entry within)
         same_layer word (word_of layout entry f) same
         ∙ word_layer entry.area entry.layer (entry.first + f) (has_two_layers layout.shape) numbers.layers (omega (arith, numbers.numbers))
 
-    by_zone : StandsAt layout k entry → Sides layout word n
+    by_zone : IsEntryAt layout k entry → Sides layout word n
     by_zone (inl first) = inl (layer ∙ first.0, omega (arith, number, first.2))
     by_zone (inr second) = inr (layer ∙ second.0, omega (arith, second.1), omega (arith, number, second.1, second.2))
 
 -- it isn't before the first block that may have it
-pub behind_first : (layout : Layout) (word n : ℕ) → IsAt layout word n → 16 * first_block layout word ≤ n
-behind_first layout word n at = by_side (sides layout word n at)
+pub after_first : (layout : Layout) (word n : ℕ) → IsAt layout word n → 16 * first_block layout word ≤ n
+after_first layout word n at = by_side (sides layout word n at)
   where
     by_side : Sides layout word n → 16 * first_block layout word ≤ n
     by_side (inl first) = rw first.0 (omega arith)
     by_side (inr second) = rw second.0 second.1
 
 -- and its sector number says how far after that
-pub number_behind : (layout : Layout) (word n : ℕ) (entry : BlockPlan) → slice_get (plan_of layout DataOnly) (first_block layout word) ≡ Some entry
+pub number_after : (layout : Layout) (word n : ℕ) (entry : BlockPlan) → slice_get (plan_of layout DataOnly) (first_block layout word) ≡ Some entry
     → IsAt layout word n → word % 2 ^ 24 ≡ entry.first + (n - 16 * first_block layout word)
-number_behind layout word n entry stands at = by_side (sides layout word n at)
+number_after layout word n entry is_there at = by_side (sides layout word n at)
   where
     k : ℕ
     k = first_block layout word
 
-    zone : StandsAt layout k entry
+    zone : IsEntryAt layout k entry
     zone =
-        subst (StandsAt layout k) (get_or_from_slice_get (plan_of layout DataOnly) k entry entry stands)
-        (stands_at layout k entry (slice_get_within (plan_of layout DataOnly) k entry stands))
+        subst (IsEntryAt layout k) (get_or_from_slice_get (plan_of layout DataOnly) k entry entry is_there)
+        (is_entry_at layout k entry (slice_get_within (plan_of layout DataOnly) k entry is_there))
 
-    in_first : k ≡ 0 → StandsAt layout k entry → entry.first ≡ 0x30000
+    in_first : k ≡ 0 → IsEntryAt layout k entry → entry.first ≡ 0x30000
     in_first none (inl first) = omega (arith, first.2, none)
     in_first none (inr second) = absurd (omega (arith, second.1, none, layout.first_layer))
 
-    in_second : k ≡ blocks_of layout.sectors0 → StandsAt layout k entry → entry.first ≡ second_first layout
+    in_second : k ≡ blocks_of layout.sectors0 → IsEntryAt layout k entry → entry.first ≡ second_first layout
     in_second is (inl first) = absurd (omega (arith, first.1, is))
     in_second is (inr second) = omega (arith, second.2, is)
 
@@ -291,8 +291,8 @@ home_some layout word n at only = first_place (is_same_place word) (id_words lay
 pub tells_place : (answer : Bool) (a b : ℕ) → IsTrue answer ↔ IsSamePlace a b → answer ≡ is_same_place a b
 tells_place answer a b decides = by_test answer (eqb_tells (bit_and a 0x0DFFFFFF) (bit_and b 0x0DFFFFFF)) decides
   where
-    by_test : (told : Bool) → ((((bit_and a 0x0DFFFFFF == bit_and b 0x0DFFFFFF) ≡ true) × IsSamePlace a b) ⊎ (((bit_and a 0x0DFFFFFF == bit_and b 0x0DFFFFFF) ≡ false) × (IsSamePlace a b → ⊥)))
-        → IsTrue told ↔ IsSamePlace a b → told ≡ is_same_place a b
+    by_test : (said : Bool) → ((((bit_and a 0x0DFFFFFF == bit_and b 0x0DFFFFFF) ≡ true) × IsSamePlace a b) ⊎ (((bit_and a 0x0DFFFFFF == bit_and b 0x0DFFFFFF) ≡ false) × (IsSamePlace a b → ⊥)))
+        → IsTrue said ↔ IsSamePlace a b → said ≡ is_same_place a b
     by_test true (inl is) iff = sym is.0
     by_test false (inl is) iff = absurd (false≢true (iff.1 is.1))
     by_test true (inr is) iff = absurd (is.1 (iff.0 refl))
@@ -305,31 +305,31 @@ pub before_is : (layout : Layout) (word layer before : ℕ) → before ≡ (if l
 before_is layout word layer before is layer_is = is ∙ ap (λ (l : ℕ). if l == 0 then 0 else blocks_of layout.sectors0) layer_is
 
 -- a word has no home where the plan ends before the first block that may have it
-pub none_behind : (layout : Layout) (word before : ℕ) → before ≡ first_block layout word → length (plan_of layout DataOnly) ≤ before
+pub none_after : (layout : Layout) (word before : ℕ) → before ≡ first_block layout word → length (plan_of layout DataOnly) ≤ before
     → home_in layout word ≡ None
-none_behind layout word before is least =
-    home_none layout word (λ n at. omega (arith, behind_first layout word n at, is, at.0, length-words layout, least))
+none_after layout word before is least =
+    home_none layout word (λ n at. omega (arith, after_first layout word n at, is, at.0, length-words layout, least))
 
 -- the block that the search begins with is the first that may have the place
-entry_stands : (layout : Layout) (word before : ℕ) (entry : BlockPlan) → before ≡ first_block layout word
+entry_is_there : (layout : Layout) (word before : ℕ) (entry : BlockPlan) → before ≡ first_block layout word
     → slice_get (plan_of layout DataOnly) before ≡ Some entry → slice_get (plan_of layout DataOnly) (first_block layout word) ≡ Some entry
-entry_stands layout word before entry is stands = ap (slice_get (plan_of layout DataOnly)) (sym is) ∙ stands
+entry_is_there layout word before entry is is_there = ap (slice_get (plan_of layout DataOnly)) (sym is) ∙ is_there
 
 -- a word has no home where its sector number is below that of the first block that may have it
 pub none_below : (layout : Layout) (word before : ℕ) (entry : BlockPlan) → before ≡ first_block layout word
     → slice_get (plan_of layout DataOnly) before ≡ Some entry → (entry.first ≤ word % 2 ^ 24 → ⊥) → home_in layout word ≡ None
-none_below layout word before entry is stands below =
+none_below layout word before entry is is_there below =
     home_none layout word (λ n at.
-    let number = number_behind layout word n entry (entry_stands layout word before entry is stands) at in
+    let number = number_after layout word n entry (entry_is_there layout word before entry is is_there) at in
     below (omega (arith, number)))
 
 -- any frame that has the place is this one
-pub only_there : (layout : Layout) (word before behind : ℕ) (entry : BlockPlan) → before ≡ first_block layout word
-    → slice_get (plan_of layout DataOnly) before ≡ Some entry → entry.first ≤ word % 2 ^ 24 → behind ≡ word % 2 ^ 24 - entry.first
-    → (n : ℕ) → IsAt layout word n → n ≡ 16 * (before + behind / 16) + behind % 16
-only_there layout word before behind entry is stands least behind_is n at =
-    let number = number_behind layout word n entry (entry_stands layout word before entry is stands) at in
-    let far = behind_first layout word n at in
+pub only_there : (layout : Layout) (word before offset : ℕ) (entry : BlockPlan) → before ≡ first_block layout word
+    → slice_get (plan_of layout DataOnly) before ≡ Some entry → entry.first ≤ word % 2 ^ 24 → offset ≡ word % 2 ^ 24 - entry.first
+    → (n : ℕ) → IsAt layout word n → n ≡ 16 * (before + offset / 16) + offset % 16
+only_there layout word before offset entry is is_there least behind_is n at =
+    let number = number_after layout word n entry (entry_is_there layout word before entry is is_there) at in
+    let far = after_first layout word n at in
     omega (arith, number, far, is, least, behind_is)
 
 -- the one frame that may have the place is the home, where the test of its ID word passes

@@ -38,7 +38,7 @@ use Rattle.dvd_merge.specs.declared.place.Place.{Place}
 use Rattle.dvd_merge.specs.declared.place.Place.TheVariants.{Unseen, Value}
 use Rattle.dvd_merge.proofs.Costs.{is_of-fold, is_of-unseen, unseen_place}
 use Rattle.dvd_merge.proofs.Places.{Tells}
-use Rattle.dvd_assemble.specs.Assembled.{frame_row, frame_table, table_for, told_of}
+use Rattle.dvd_assemble.specs.Assembled.{frame_row, frame_table, table_for, table_of_frame}
 use Rattle.dvd_assemble.specs.Frames.{Frame}
 use Rattle.dvd_assemble.specs.Home.{checked_word, home, home_in, id_word_in}
 use Rattle.dvd_assemble.specs.Laws.{CapturedFramesAgree, CapturedFramesComeHome}
@@ -81,18 +81,18 @@ own_home layout k f within below =
     home_some layout word (16 * k + f) at (λ m there. one_place layout word (16 * k + f) m (sides layout word (16 * k + f) at) (sides layout word m there))
 
 -- the front of a front
-take_front : (m n : ℕ) (xs : List ℕ) → m ≤ n → take m (take n xs) ≡ take m xs
-take_front zero n xs less = refl
-take_front (suc m) zero xs less = absurd (omega (arith, less))
-take_front (suc m) (suc n) [] less = refl
-take_front (suc m) (suc n) (x ∷ xs) less = ap (λ ys. x ∷ ys) (take_front m n xs (omega (arith, less)))
+take_prefix : (m n : ℕ) (xs : List ℕ) → m ≤ n → take m (take n xs) ≡ take m xs
+take_prefix zero n xs less = refl
+take_prefix (suc m) zero xs less = absurd (omega (arith, less))
+take_prefix (suc m) (suc n) [] less = refl
+take_prefix (suc m) (suc n) (x ∷ xs) less = ap (λ ys. x ∷ ys) (take_prefix m n xs (omega (arith, less)))
 
 -- the word of a row that begins with an ID and its IED
 word_checked : (word : ℕ) (row : List ℕ) → word < 2 ^ 32 → take 6 row ≡ word_bytes word ++ ied_of word → checked_word row ≡ Some word
 word_checked word row fits begins =
     let right : has_check (take 6 row) ≡ true = ap has_check begins ∙ ied_right word in
     let four : take 4 row ≡ word_bytes word =
-    sym (take_front 4 6 row (omega arith)) ∙ ap (take 4) begins ∙ take_at (word_bytes word) (ied_of word) 4 refl in
+    sym (take_prefix 4 6 row (omega arith)) ∙ ap (take 4) begins ∙ take_at (word_bytes word) (ied_of word) 4 refl in
     let found : found_word row ≡ word = ap (λ (l : List ℕ). from_be_bytes w32 l) four ∙ from_be_bytes-to_be_bytes_4 word fits in
     ap (λ (r : Bool). if r then Some (found_word row) else None) right ∙ ap (λ w. Some w) found
 
@@ -167,8 +167,8 @@ module _ (f : ℕ) (block : List (List ℕ)) (frame : Frame) (captured : IsCaptu
 
 -- what it says of any block
 told_has : (layout : Layout) (blocks : ℕ → List (List ℕ)) (k : ℕ) (frame : Frame) → AreNamed layout blocks → IsCaptured layout blocks frame
-    → IsTableOf (blocks k) (told_of layout k frame)
-unfolding told_of
+    → IsTableOf (blocks k) (table_of_frame layout k frame)
+unfolding table_of_frame
 told_has layout blocks k frame named (at, f, within, below, captured) =
     subst (λ found. IsTableOf (blocks k) (option_map_or (table_for k frame) found unseen)) (sym home_is) (by_block (eqb_tells ((16 * at + f) / 16) k))
   where
@@ -188,10 +188,10 @@ block_has : (layout : Layout) (blocks : ℕ → List (List ℕ)) (frames : List 
     → IsTableOf (blocks k) (block_at layout frames k)
 unfolding joined
 block_has layout blocks frames k named captured =
-    is_of-fold (blocks k) unseen (map (told_of layout k) frames) (is_of-unseen (blocks k))
+    is_of-fold (blocks k) unseen (map (table_of_frame layout k) frames) (is_of-unseen (blocks k))
     (λ m d inside.
-    let there : m < length frames = omega (arith, inside, length-map frames (told_of layout k)) in
-    subst (IsTableOf (blocks k)) (sym (get_or-map (told_of layout k) frames m blank d there)) (told_has layout blocks k (get_or frames m blank) named (captured m blank there)))
+    let there : m < length frames = omega (arith, inside, length-map frames (table_of_frame layout k)) in
+    subst (IsTableOf (blocks k)) (sym (get_or-map (table_of_frame layout k) frames m blank d there)) (told_has layout blocks k (get_or frames m blank) named (captured m blank there)))
   where
     blank : Frame
     blank = record { rows = []; marks = [] }

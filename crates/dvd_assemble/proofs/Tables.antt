@@ -80,15 +80,15 @@ join-shaped a b shaped height = record {
 }
 
 -- so does one that is joined with several of 208 rows, one after the other
-fold-shaped : {A : Type 0} (tell : A → Table) → ((x : A) → length (tell x) ≡ 208) → (start : Table) (xs : List A) → IsShaped start
-    → IsShaped (fold join_tables start (map tell xs))
-fold-shaped tell high start [] shaped = shaped
-fold-shaped tell high start (x ∷ xs) shaped = fold-shaped tell high (join_tables start (tell x)) xs (join-shaped start (tell x) shaped (high x))
+fold-shaped : {A : Type 0} (say : A → Table) → ((x : A) → length (say x) ≡ 208) → (start : Table) (xs : List A) → IsShaped start
+    → IsShaped (fold join_tables start (map say xs))
+fold-shaped say high start [] shaped = shaped
+fold-shaped say high start (x ∷ xs) shaped = fold-shaped say high (join_tables start (say x)) xs (join-shaped start (say x) shaped (high x))
 
 -- the join of such tables has the shape of a block
-pub joined-shaped : {A : Type 0} (tell : A → Table) → ((x : A) → length (tell x) ≡ 208) → (xs : List A) → IsShaped (joined (map tell xs))
+pub joined-shaped : {A : Type 0} (say : A → Table) → ((x : A) → length (say x) ≡ 208) → (xs : List A) → IsShaped (joined (map say xs))
 unfolding joined
-joined-shaped tell high xs = fold-shaped tell high unseen xs unseen-shaped
+joined-shaped say high xs = fold-shaped say high unseen xs unseen-shaped
 
 -- a list with one element more is mapped with one image more
 map-more : {A B : Type 0} (f : A → B) (xs : List A) (x : A) → map f (xs ++ x ∷ []) ≡ map f xs ++ f x ∷ []
@@ -96,9 +96,9 @@ map-more f [] x = refl
 map-more f (y ∷ xs) x = ap (λ ys. f y ∷ ys) (map-more f xs x)
 
 -- one table more is joined to the join of those before it
-pub joined-more : {A : Type 0} (tell : A → Table) (xs : List A) (x : A) → joined (map tell (xs ++ x ∷ [])) ≡ join_tables (joined (map tell xs)) (tell x)
+pub joined-more : {A : Type 0} (say : A → Table) (xs : List A) (x : A) → joined (map say (xs ++ x ∷ [])) ≡ join_tables (joined (map say xs)) (say x)
 unfolding joined
-joined-more tell xs x = ap (fold join_tables unseen) (map-more tell xs x) ∙ fold-append join_tables unseen (map tell xs) (tell x ∷ [])
+joined-more say xs x = ap (fold join_tables unseen) (map-more say xs x) ∙ fold-append join_tables unseen (map say xs) (say x ∷ [])
 
 -- what a frame says of its block has 208 rows
 pub length-frame_table : (f : ℕ) (frame : Frame) → length (frame_table f frame) ≡ 208
@@ -110,21 +110,21 @@ length-frame_table f frame =
 pub by_table : (f : ℕ) (frame : Frame) (table : Table) → IsShaped table → with_frame f frame table ≡ join_tables table (frame_table f frame)
 unfolding with_frame frame_table join_tables
 by_table f frame table shaped =
-    sym (mapped rows (zip2 join_rows table (map tells (range_with_len 0 208))) 208 [] height
+    sym (mapped rows (zip2 join_rows table (map says (range_with_len 0 208))) 208 [] height
     (λ i below.
-    row-join table (map tells (range_with_len 0 208)) i
-    ∙ ap (join_rows (known_row table i)) (get_or-map-range_with_len tells 0 208 i i [] below (omega arith))
+    row-join table (map says (range_with_len 0 208)) i
+    ∙ ap (join_rows (known_row table i)) (get_or-map-range_with_len says 0 208 i i [] below (omega arith))
     ∙ sym (by_frame i (eqb_tells (record_at i / 13) f))))
   where
     rows : ℕ → List Place
     rows i = if record_at i / 13 == f then join_rows (known_row table i) (frame_row frame (record_at i % 13)) else known_row table i
 
-    tells : ℕ → List Place
-    tells i = if record_at i / 13 == f then frame_row frame (record_at i % 13) else replicate 182 Unseen
+    says : ℕ → List Place
+    says i = if record_at i / 13 == f then frame_row frame (record_at i % 13) else replicate 182 Unseen
 
-    height : length (zip2 join_rows table (map tells (range_with_len 0 208))) ≡ 208
-    height = length-zip2 join_rows table (map tells (range_with_len 0 208)) (shaped.height ∙ sym (length-map-range_with_len tells 0 208)) ∙ shaped.height
+    height : length (zip2 join_rows table (map says (range_with_len 0 208))) ≡ 208
+    height = length-zip2 join_rows table (map says (range_with_len 0 208)) (shaped.height ∙ sym (length-map-range_with_len says 0 208)) ∙ shaped.height
 
-    by_frame : (i : ℕ) → Tells (record_at i / 13) f → rows i ≡ join_rows (known_row table i) (tells i)
+    by_frame : (i : ℕ) → Tells (record_at i / 13) f → rows i ≡ join_rows (known_row table i) (says i)
     by_frame i (inl here) = rw here.0 refl
     by_frame i (inr elsewhere) = rw elsewhere.0 (sym (unseen_row (known_row table i) 182 (shaped.widths i)))

@@ -29,12 +29,12 @@ abbrev pub table_for : ℕ → Frame → ℕ → Table
 table_for k frame n = if n / 16 == k then frame_table (n % 16) frame else unseen
 
 -- Ours: the same, by the home of the frame
-unfoldable pub told_of : Layout → ℕ → Frame → Table
-told_of layout k frame = option_map_or (table_for k frame) (home layout frame) unseen
+unfoldable pub table_of_frame : Layout → ℕ → Frame → Table
+table_of_frame layout k frame = option_map_or (table_for k frame) (home layout frame) unseen
 
 -- Ours: for each data block the join of what all frames say of it
 unfoldable pub assembled : Layout → List Frame → List Table
-assembled layout frames = map (λ k. joined (map (told_of layout k) frames)) (range_with_len 0 (length (plan_of layout DataOnly)))
+assembled layout frames = map (λ k. joined (map (table_of_frame layout k) frames)) (range_with_len 0 (length (plan_of layout DataOnly)))
 
 -- Ours: a block with a captured frame joined to it as its recording frame f: thirteen rows, place by place. The others
 -- stay.

@@ -85,9 +85,9 @@ fn home_of_id(layout: &Layout, id: Id) -> Option<(u16, u8)>
     // An ID before the first sector of that block names no frame of the layer. From there on each block of a layer has
     // the next sixteen numbers, so the difference gives both block and frame, whether or not `first` is a multiple of
     // 16.
-    let behind = id.number().checked_sub(first)?;
-    let k = before + u64::from(behind / 16);
-    let f = behind % 16;
+    let offset = id.number().checked_sub(first)?;
+    let k = before + u64::from(offset / 16);
+    let f = offset % 16;
     if k < blocks && has_frame(layout, k, f as usize, id) {
         Some((k as u16, f as u8))
     } else {

@@ -16,8 +16,8 @@ upper_end block j n top size within each =
     (λ i below. each i below ∙ sym (get_or-take n (column block j) i 0 (omega arith) ∙ get_or-column block j i))
 
 -- what an encoder leaves of a column: its upper end, and the parity
-pub column_encoded : (front top behind word : List ℕ) → length top ≡ 192 → top ≡ front → IsEncoded 208 16 (take 192 (top ++ behind)) word
-    → IsCodeword 208 16 (front ++ drop 192 word)
-column_encoded front top behind word size is encoded =
-    let begins : take 192 word ≡ front = encoded.begins ∙ take_at top behind 192 size ∙ is in
+pub column_encoded : (prefix top past word : List ℕ) → length top ≡ 192 → top ≡ prefix → IsEncoded 208 16 (take 192 (top ++ past)) word
+    → IsCodeword 208 16 (prefix ++ drop 192 word)
+column_encoded prefix top past word size is encoded =
+    let begins : take 192 word ≡ prefix = encoded.begins ∙ take_at top past 192 size ∙ is in
     subst (IsCodeword 208 16) (sym (take-append-drop 192 word) ∙ ap (λ (l : List ℕ). l ++ drop 192 word) begins) encoded.codeword

@@ -207,10 +207,10 @@ module _ (frames : List (List ℕ)) (sizes : (f : ℕ) → f < 16 → length (li
         get_or-take 192 lines.list i [] above ∙ same_line i above ∙ sym (get_or-take 192 upper i [] above));
     rows = λ i above. record { codeword = (rows.each i above).codeword; begins = refl };
     columns = λ j within.
-        let front : take 192 (column upper j) ≡ take 192 (line words.list j) =
+        let prefix : take 192 (column upper j) ≡ take 192 (line words.list j) =
         take_all 192 (column upper j) (omega (arith, length-upper_column j)) ∙ sym (words.each j within).begins in
         subst (IsCodeword 208 16)
-        (sym (ap (λ (l : List ℕ). l ++ line cells j) front
+        (sym (ap (λ (l : List ℕ). l ++ line cells j) prefix
         ∙ ap (λ (l : List ℕ). take 192 (line words.list j) ++ l) (line-cells j within)
         ∙ take-append-drop 192 (line words.list j)))
         (words.each j within).codeword;

@@ -34,13 +34,13 @@ recorded-add m zero k block =
     ∙ ap (λ (l : List ℕ). l ++ recorded (m + 0) k block) (sym (recorded-none m block))
 recorded-add m (suc n) k block =
     let shape : suc n + k ≡ suc (n + k) = omega arith in
-    let behind : m + 1 + n ≡ m + suc n = omega arith in
+    let past : m + 1 + n ≡ m + suc n = omega arith in
     ap (λ (c : ℕ). recorded m c block) shape
     ∙ recorded-first m (n + k) block
     ∙ ap (λ (l : List ℕ). line block (row_at m) ++ l) (recorded-add (m + 1) n k block)
     ∙ sym (append_assoc (line block (row_at m)) (recorded (m + 1) n block) (recorded (m + 1 + n) k block))
     ∙ ap (λ (l : List ℕ). l ++ recorded (m + 1 + n) k block) (sym (recorded-first m n block))
-    ∙ ap (λ (c : ℕ). recorded m (suc n) block ++ recorded c k block) behind
+    ∙ ap (λ (c : ℕ). recorded m (suc n) block ++ recorded c k block) past
 
 -- one row more
 pub recorded-more : (m n : ℕ) (block : List (List ℕ)) → recorded m (n + 1) block ≡ recorded m n block ++ line block (row_at (m + n))

@@ -28,55 +28,55 @@ module _ {X : Type 0} (a k : ℕ) (was part : List X) where
   -- inside the part the elements are those written
   pub get_or-part_written : (d : X) (q : ℕ) → a + k ≤ length was → length part ≡ k → q < k → get_or part_written (a + q) d ≡ get_or part q d
   get_or-part_written d q inside size below =
-      let front : length (take a was) ≡ a = length-take-le a was (omega arith) in
+      let prefix : length (take a was) ≡ a = length-take-le a was (omega arith) in
       let place : a + q - a ≡ q = omega arith in
-      get_or-append_right (take a was) (part ++ drop k (drop a was)) a (a + q) d front (omega arith)
+      get_or-append_right (take a was) (part ++ drop k (drop a was)) a (a + q) d prefix (omega arith)
       ∙ ap (λ (i : ℕ). get_or (part ++ drop k (drop a was)) i d) place
       ∙ get_or_append_left part (drop k (drop a was)) d q (omega arith)
 
   -- before the part and after it the elements are as they were
   pub get_or-part_kept : (d : X) (i : ℕ) → a + k ≤ length was → length part ≡ k → (i < a) ⊎ (a + k ≤ i) → get_or part_written i d ≡ get_or was i d
   get_or-part_kept d i inside size (inl before) =
-      let front : length (take a was) ≡ a = length-take-le a was (omega arith) in
+      let prefix : length (take a was) ≡ a = length-take-le a was (omega arith) in
       get_or_append_left (take a was) (part ++ drop k (drop a was)) d i (omega arith) ∙ get_or-take a was i d before
-  get_or-part_kept d i inside size (inr behind) =
-      let front : length (take a was) ≡ a = length-take-le a was (omega arith) in
+  get_or-part_kept d i inside size (inr farther) =
+      let prefix : length (take a was) ≡ a = length-take-le a was (omega arith) in
       let place : a + (k + (i - a - k)) ≡ i = omega arith in
-      get_or-append_right (take a was) (part ++ drop k (drop a was)) a i d front (omega arith)
+      get_or-append_right (take a was) (part ++ drop k (drop a was)) a i d prefix (omega arith)
       ∙ get_or-append_right part (drop k (drop a was)) k (i - a) d size (omega arith)
       ∙ get_or-drop k (drop a was) (i - a - k) d
       ∙ get_or-drop a was (k + (i - a - k)) d
       ∙ ap (λ (j : ℕ). get_or was j d) place
 
 -- Twelve rows with their fronts set to a frame.
-pub record FrontsSet (frame : List ℕ) (was now : List (List ℕ)) : Type 0 where
+pub record PrefixesSet (frame : List ℕ) (was now : List (List ℕ)) : Type 0 where
   pub size : length now ≡ 12
   pub each : (q : ℕ) → q < 12 → line now q ≡ take 172 (drop (172 * q) frame) ++ drop 172 (line was q)
 
 -- each front of a row is 172 bytes of the frame
-length-front : (frame : List ℕ) (q : ℕ) → length frame ≡ 2064 → q < 12 → length (take 172 (drop (172 * q) frame)) ≡ 172
-length-front frame q size below = length-take-le 172 (drop (172 * q) frame) (omega (arith, length-drop (172 * q) frame))
+length-prefix : (frame : List ℕ) (q : ℕ) → length frame ≡ 2064 → q < 12 → length (take 172 (drop (172 * q) frame)) ≡ 172
+length-prefix frame q size below = length-take-le 172 (drop (172 * q) frame) (omega (arith, length-drop (172 * q) frame))
 
 -- the front of row q has the bytes of the frame from 172 q on
-pub front_set : (frame : List ℕ) (was now : List (List ℕ)) (q p : ℕ) → length frame ≡ 2064 → FrontsSet frame was now → q < 12 → p < 172
+pub prefix_set : (frame : List ℕ) (was now : List (List ℕ)) (q p : ℕ) → length frame ≡ 2064 → PrefixesSet frame was now → q < 12 → p < 172
     → place now q p ≡ get_or frame (172 * q + p) 0
-front_set frame was now q p size fronts below within =
-    let front : List ℕ = take 172 (drop (172 * q) frame) in
-    let front_size : length front ≡ 172 = length-front frame q size below in
-    ap (λ (row : List ℕ). get_or row p 0) (fronts.each q below)
-    ∙ get_or_append_left front (drop 172 (line was q)) 0 p (omega arith)
+prefix_set frame was now q p size prefixes below within =
+    let prefix : List ℕ = take 172 (drop (172 * q) frame) in
+    let prefix_size : length prefix ≡ 172 = length-prefix frame q size below in
+    ap (λ (row : List ℕ). get_or row p 0) (prefixes.each q below)
+    ∙ get_or_append_left prefix (drop 172 (line was q)) 0 p (omega arith)
     ∙ get_or-take 172 (drop (172 * q) frame) p 0 within
     ∙ get_or-drop (172 * q) frame p 0
 
 -- after their fronts the rows are as they were
-pub behind_front : (frame : List ℕ) (was now : List (List ℕ)) (q j : ℕ) → length frame ≡ 2064 → FrontsSet frame was now → q < 12 → 172 ≤ j
+pub after_prefix : (frame : List ℕ) (was now : List (List ℕ)) (q j : ℕ) → length frame ≡ 2064 → PrefixesSet frame was now → q < 12 → 172 ≤ j
     → place now q j ≡ place was q j
-behind_front frame was now q j size fronts below behind =
-    let front : List ℕ = take 172 (drop (172 * q) frame) in
-    let front_size : length front ≡ 172 = length-front frame q size below in
+after_prefix frame was now q j size prefixes below farther =
+    let prefix : List ℕ = take 172 (drop (172 * q) frame) in
+    let prefix_size : length prefix ≡ 172 = length-prefix frame q size below in
     let there : 172 + (j - 172) ≡ j = omega arith in
-    ap (λ (row : List ℕ). get_or row j 0) (fronts.each q below)
-    ∙ get_or-append_right front (drop 172 (line was q)) 172 j 0 front_size behind
+    ap (λ (row : List ℕ). get_or row j 0) (prefixes.each q below)
+    ∙ get_or-append_right prefix (drop 172 (line was q)) 172 j 0 prefix_size farther
     ∙ get_or-drop 172 (line was q) (j - 172) 0
     ∙ ap (λ (i : ℕ). get_or (line was q) i 0) there
 
@@ -101,8 +101,8 @@ module _ (a k n : ℕ) (rows part old : List (List ℕ)) where
       ap (λ (b : List (List ℕ)). line b i) (back_is inside size number) ∙ get_or-part_kept a k rows part [] i inside size elsewhere
 
   -- the rows before the part
-  pub back_front : a + k ≤ length rows → length part ≡ k → length rows ≡ n → take a rows_back ≡ take a rows
-  back_front inside size number =
+  pub back_prefix : a + k ≤ length rows → length part ≡ k → length rows ≡ n → take a rows_back ≡ take a rows
+  back_prefix inside size number =
       ap (λ (b : List (List ℕ)). take a b) (back_is inside size number)
       ∙ take_at (take a rows) (part ++ drop k (drop a rows)) a (length-take-le a rows (omega arith))
 
@@ -120,7 +120,7 @@ module _ (f k n : ℕ) (frame : List ℕ) (rows part old : List (List ℕ)) wher
     where
       apart : (i < 12 * f) ⊎ (12 * f + 12 ≤ i) → (i < 12 * f) ⊎ (12 * f + k ≤ i)
       apart (inl before) = inl before
-      apart (inr behind) = inr (omega arith)
+      apart (inr farther) = inr (omega arith)
 
   -- row q of frame f is row q of the twelve written
   row_written : f < 16 → k ≡ 12 → length rows ≡ 208 → n ≡ 208 → length part ≡ 12 → (q : ℕ) → q < 12 → line frame_rows (12 * f + q) ≡ line part q
@@ -128,20 +128,20 @@ module _ (f k n : ℕ) (frame : List ℕ) (rows part old : List (List ℕ)) wher
       back_written (12 * f) k n rows part old (omega arith) (omega arith) (omega arith) q (omega arith)
 
   -- the block holds frame f, in the fronts of its twelve rows
-  pub frame_held : f < 16 → k ≡ 12 → length rows ≡ 208 → n ≡ 208 → length frame ≡ 2064 → FrontsSet frame (take k (drop (12 * f) rows)) part → HoldsFrame f frame frame_rows
+  pub frame_held : f < 16 → k ≡ 12 → length rows ≡ 208 → n ≡ 208 → length frame ≡ 2064 → PrefixesSet frame (take k (drop (12 * f) rows)) part → HoldsFrame f frame frame_rows
   unfolding HoldsFrame
-  frame_held below twelve height number long fronts = λ q p within inside.
-      ap (λ (row : List ℕ). get_or row p 0) (row_written below twelve height number fronts.size q within)
-      ∙ front_set frame (take k (drop (12 * f) rows)) part q p long fronts within inside
+  frame_held below twelve height number long prefixes = λ q p within inside.
+      ap (λ (row : List ℕ). get_or row p 0) (row_written below twelve height number prefixes.size q within)
+      ∙ prefix_set frame (take k (drop (12 * f) rows)) part q p long prefixes within inside
 
   -- after their fronts all rows, those of frame f too, are as they were
-  pub inner_parity_kept : f < 16 → k ≡ 12 → length rows ≡ 208 → n ≡ 208 → length frame ≡ 2064 → FrontsSet frame (take k (drop (12 * f) rows)) part → rows ≡ old
+  pub inner_parity_kept : f < 16 → k ≡ 12 → length rows ≡ 208 → n ≡ 208 → length frame ≡ 2064 → PrefixesSet frame (take k (drop (12 * f) rows)) part → rows ≡ old
       → (i j : ℕ) → 172 ≤ j → place frame_rows i j ≡ place old i j
-  inner_parity_kept below twelve height number long fronts same i j behind =
+  inner_parity_kept below twelve height number long prefixes same i j farther =
       elim (cases_lt i (12 * f)) [
-        | inl before ↦ ap (λ (row : List ℕ). get_or row j 0) (other_rows_kept below twelve height number fronts.size same i (inl before))
+        | inl before ↦ ap (λ (row : List ℕ). get_or row j 0) (other_rows_kept below twelve height number prefixes.size same i (inl before))
         | inr from ↦ elim (cases_lt i (12 * f + 12)) [
-          | inr past ↦ ap (λ (row : List ℕ). get_or row j 0) (other_rows_kept below twelve height number fronts.size same i (inr past))
+          | inr past ↦ ap (λ (row : List ℕ). get_or row j 0) (other_rows_kept below twelve height number prefixes.size same i (inr past))
           | inl inside ↦ written (i - 12 * f) (omega arith) (omega arith)
         ]
       ]
@@ -149,8 +149,8 @@ module _ (f k n : ℕ) (frame : List ℕ) (rows part old : List (List ℕ)) wher
       written : (q : ℕ) → q < 12 → 12 * f + q ≡ i → place frame_rows i j ≡ place old i j
       written q within is =
           ap (λ (m : ℕ). place frame_rows m j) (sym is)
-          ∙ ap (λ (row : List ℕ). get_or row j 0) (row_written below twelve height number fronts.size q within)
-          ∙ behind_front frame (take k (drop (12 * f) rows)) part q j long fronts within behind
+          ∙ ap (λ (row : List ℕ). get_or row j 0) (row_written below twelve height number prefixes.size q within)
+          ∙ after_prefix frame (take k (drop (12 * f) rows)) part q j long prefixes within farther
           ∙ ap (λ (row : List ℕ). get_or row j 0) (get_or-take k (drop (12 * f) rows) q [] (omega arith) ∙ get_or-drop (12 * f) rows q [])
           ∙ ap (λ (m : ℕ). place rows m j) is
           ∙ ap (λ (b : List (List ℕ)). place b i j) same

@@ -10,11 +10,11 @@ pub codewords_tested : (n r : ℕ) (words : ℕ → List ℕ) (values : List (Li
     → ((k j : ℕ) → k < r → j < 32 → place values k j ≡ value (words j) (power alpha k))
     → ((j : ℕ) → j < 32 → (get_or joined j 0 ≡ 0) ↔ ((k : ℕ) → k < r → place values k j ≡ 0))
     → ((j : ℕ) → j < 32 → get_or joined j 0 ≡ 0) ↔ ((j : ℕ) → j < 32 → IsCodeword n r (words j))
-codewords_tested n r words values joined sizes bytes are tell = (
+codewords_tested n r words values joined sizes bytes are say = (
   (λ zeros j below. record {
     size = sizes j below;
     bytes = bytes j below;
-    vanishes = λ k few. sym (are k j few below) ∙ (tell j below).0 (zeros j below) k few;
+    vanishes = λ k few. sym (are k j few below) ∙ (say j below).0 (zeros j below) k few;
   }),
-  (λ codewords j below. (tell j below).1 (λ k few. are k j few below ∙ (codewords j below).vanishes k few)),
+  (λ codewords j below. (say j below).1 (λ k few. are k j few below ∙ (codewords j below).vanishes k few)),
 )

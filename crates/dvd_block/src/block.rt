@@ -146,14 +146,14 @@ fn put_rows(rows: &mut [[u8; 182]], frame: &[u8; 2064])
     ensures { EachIndex rows.new (λ q. line rows.new q ≡ take 172 (drop (172 * q) frame.now) ++ drop 172 (line rows.old q)) }
 {
     for (q, row) in rows.iter_mut().enumerate() {
-        put_front(row, &frame[172 * q..172 * q + 172]);
+        put_data(row, &frame[172 * q..172 * q + 172]);
     }
 }
 
 // Sets the first 172 bytes of a row. Its ten bytes of parity stay.
-fn put_front(row: &mut [u8; 182], front: &[u8])
-    requires { length front.now ≡ 172 }
-    ensures { row.new ≡ front.now ++ drop 172 row.old }
+fn put_data(row: &mut [u8; 182], prefix: &[u8])
+    requires { length prefix.now ≡ 172 }
+    ensures { row.new ≡ prefix.now ++ drop 172 row.old }
 {
-    row[..172].copy_from_slice(front);
+    row[..172].copy_from_slice(prefix);
 }

@@ -54,8 +54,8 @@ module _ (row : List ℕ) (size : length row ≡ 23) where
         no_one (bit_at (get_or row q 0) (7 - k)) (subst (λ m. (bit_at (get_or row q 0) (7 - m) == 1) ≡ false) bit (subst (λ p. (bit_at (get_or row p 0) (7 - j % 8) == 1) ≡ false) byte at))
 
     -- and the bytes are so where no place is marked
-    pub clear_front : take 22 row ≡ replicate 22 0
-    clear_front =
+    pub clear_prefix : take 22 row ≡ replicate 22 0
+    clear_prefix =
         let width : length (take 22 row) ≡ 22 = omega (arith, length-take 22 row, size) in
         let zeros : List ℕ = replicate 22 0 in
         same_number_lists (take 22 row) zeros width (λ q within.

@@ -41,8 +41,8 @@ part-append xs ys a n inside =
     ap (take n) (drop-append-le a xs ys (omega arith)) ∙ take-append-le n (drop a xs) ys (omega (arith, length-drop a xs))
 
 -- what comes after so many bytes is the second of two lists
-pub part-behind : (xs ys : List ℕ) (a n : ℕ) → length xs ≡ a → length ys ≡ n → take n (drop a (xs ++ ys)) ≡ ys
-part-behind xs ys a n size more = subst (λ k. take n (drop k (xs ++ ys)) ≡ ys) size (ap (take n) (drop-append_seam xs ys) ∙ take_all n ys (omega arith))
+pub part-after : (xs ys : List ℕ) (a n : ℕ) → length xs ≡ a → length ys ≡ n → take n (drop a (xs ++ ys)) ≡ ys
+part-after xs ys a n size more = subst (λ k. take n (drop k (xs ++ ys)) ≡ ys) size (ap (take n) (drop-append_seam xs ys) ∙ take_all n ys (omega arith))
 
 -- nothing is put yet
 pub none_put : (form : Form) (bytes : List ℕ) (rows : List (List ℕ)) (marks : List (List Bool)) → ArePut form bytes rows marks 0

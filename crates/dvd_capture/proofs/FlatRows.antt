@@ -65,18 +65,18 @@ part_row bytes at n i k place within =
     ∙ ap (take 182) (drop-drop (182 * k) at bytes ∙ ap (λ (m : ℕ). drop m bytes) together)
 
 -- row k after i rows
-pub row_after : (front rows : List ℕ) (i k : ℕ) → length front ≡ 182 * i → row_in (front ++ rows) (i + k) ≡ row_in rows k
-row_after front rows i k size =
+pub row_after : (prefix rows : List ℕ) (i k : ℕ) → length prefix ≡ 182 * i → row_in (prefix ++ rows) (i + k) ≡ row_in rows k
+row_after prefix rows i k size =
     let together : 182 * (i + k) ≡ 182 * i + 182 * k = omega arith in
-    ap (take 182) (ap (λ (m : ℕ). drop m (front ++ rows)) together ∙ sym (drop-drop (182 * k) (182 * i) (front ++ rows))
-    ∙ ap (drop (182 * k)) (drop_at front rows (182 * i) size))
+    ap (take 182) (ap (λ (m : ℕ). drop m (prefix ++ rows)) together ∙ sym (drop-drop (182 * k) (182 * i) (prefix ++ rows))
+    ∙ ap (drop (182 * k)) (drop_at prefix rows (182 * i) size))
 
 -- one row is another one, and no other row
 pub rows_in-set : (old new : List ℕ) (i : ℕ) (row : List ℕ) → i < 208 → row_in new i ≡ row
     → ((m : ℕ) → m < i → row_in new m ≡ row_in old m)
     → ((m : ℕ) → i < m → row_in new m ≡ row_in old m)
     → rows_in new ≡ set (rows_in old) i row
-rows_in-set old new i row below here before behind =
+rows_in-set old new i row below here before past =
     sym (rows_in-are new (set (rows_in old) i row) (length-set (rows_in old) i row ∙ rows_in-height old)
     (λ m low. by_place m low (below_or m i) (below_or i m)))
   where
@@ -84,7 +84,7 @@ rows_in-set old new i row below here before behind =
     by_place m low (inl less) other =
         get_or-set_other (rows_in old) i m row [] (omega (arith, less)) ∙ rows_in-line old m low ∙ sym (before m less)
     by_place m low (inr from) (inl more) =
-        get_or-set_other (rows_in old) i m row [] (omega (arith, more)) ∙ rows_in-line old m low ∙ sym (behind m more)
+        get_or-set_other (rows_in old) i m row [] (omega (arith, more)) ∙ rows_in-line old m low ∙ sym (past m more)
     by_place m low (inr from) (inr to) =
         let same : m ≡ i = omega (arith, from, to) in
         ap (line (set (rows_in old) i row)) same

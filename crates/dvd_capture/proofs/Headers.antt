@@ -4,7 +4,7 @@ use Rattle.std.specs.Int.{from_be_bytes, to_be_bytes, w32}
 use Rattle.std.specs.List.{range_with_len}
 use Rattle.std.proofs.lemmas.Bool.Decides.{nat_tests}
 use Rattle.std.proofs.lemmas.Nat.{be_bytes_4, from_be_bytes-to_be_bytes_4}
-use Rattle.dvd_capture.specs.Header.{header_bytes, initial_bytes, may_stand}
+use Rattle.dvd_capture.specs.Header.{header_bytes, initial_bytes, may_be_there}
 use Rattle.dvd_capture.specs.Laws.{HeadersDiffer}
 use Rattle.dvd_capture.specs.declared.header.Header.{Header}
 use Rattle.dvd_capture.proofs.Mapped.{mapped}
@@ -30,13 +30,13 @@ below_by : (b n : ℕ) → nat_lt b n ≡ true → b < n
 below_by b n is = grind (arith, nat_tests)
 
 -- a byte that may be at place 8 of a header names one of the three shapes
-pub shape-known : (b : ℕ) → may_stand 8 b ≡ true → b < 3
-unfolding may_stand
+pub shape-known : (b : ℕ) → may_be_there 8 b ≡ true → b < 3
+unfolding may_be_there
 shape-known b is = below_by b 3 is
 
 -- a byte that may be at place 9 of a header names one of the two zones
-pub zones-known : (b : ℕ) → may_stand 9 b ≡ true → b < 2
-unfolding may_stand
+pub zones-known : (b : ℕ) → may_be_there 9 b ≡ true → b < 2
+unfolding may_be_there
 zones-known b is = below_by b 2 is
 
 -- where the test says that two numbers are equal, they are
@@ -47,7 +47,7 @@ equal_by b n is = grind (arith, nat_tests)
 abbrev joined : ℕ → ℕ → List ℕ → List ℕ → List ℕ → List ℕ → List ℕ
 joined shape zones sectors0 sectors1 initial tail = initial_bytes ++ shape ∷ zones ∷ 0 ∷ 0 ∷ sectors0 ++ sectors1 ++ initial ++ tail ++ 0 ∷ 0 ∷ 0 ∷ 0 ∷ []
 
-module _ (b : ℕ → ℕ) (may : (k : ℕ) → k < 32 → may_stand k (b k) ≡ true) (small : (k : ℕ) → k < 32 → b k < 256)
+module _ (b : ℕ → ℕ) (may : (k : ℕ) → k < 32 → may_be_there k (b k) ≡ true) (small : (k : ℕ) → k < 32 → b k < 256)
     (header : Header) (shape : header.shape ≡ b 8) (zones : header.zones ≡ b 9)
     (sectors0 : header.sectors0 ≡ from_be_bytes w32 (b 12 ∷ b 13 ∷ b 14 ∷ b 15 ∷ [])) (sectors1 : header.sectors1 ≡ from_be_bytes w32 (b 16 ∷ b 17 ∷ b 18 ∷ b 19 ∷ []))
     (initial : header.initial ≡ from_be_bytes w32 (b 20 ∷ b 21 ∷ b 22 ∷ b 23 ∷ [])) (tail : header.tail ≡ from_be_bytes w32 (b 24 ∷ b 25 ∷ b 26 ∷ b 27 ∷ [])) where
@@ -57,7 +57,7 @@ module _ (b : ℕ → ℕ) (may : (k : ℕ) → k < 32 → may_stand k (b k) ≡
 
   -- 32 bytes that may all be at their places are those of the header that was read from them
   pub header-is : header_bytes header ≡ map b (range_with_len 0 32)
-  unfolding header_bytes may_stand
+  unfolding header_bytes may_be_there
   header-is =
       let e0 : b 0 ≡ 0x44 = fixed 0 0x44 (may 0 (omega arith)) in
       let e1 : b 1 ≡ 0x56 = fixed 1 0x56 (may 1 (omega arith)) in

@@ -14,9 +14,9 @@ field_at-append a b offset within =
     omega (arith, first, second)
 
 -- the field that is so far after them
-pub field_at-behind : (a b : List ℕ) (offset k : ℕ) → length a + k ≡ offset → field_at (a ++ b) offset ≡ field_at b k
+pub field_at-after : (a b : List ℕ) (offset k : ℕ) → length a + k ≡ offset → field_at (a ++ b) offset ≡ field_at b k
 unfolding field_at
-field_at-behind a b offset k size =
+field_at-after a b offset k size =
     let next : offset + 1 ≡ length a + (k + 1) = omega arith in
     let first : get_or (a ++ b) offset 0 ≡ get_or b k 0 = ap (λ n. get_or (a ++ b) n 0) (sym size) ∙ get_or-append-add a b k 0 in
     let second : get_or (a ++ b) (offset + 1) 0 ≡ get_or b (k + 1) 0 = ap (λ n. get_or (a ++ b) n 0) next ∙ get_or-append-add a b (k + 1) 0 in
@@ -41,38 +41,38 @@ module _ (a b : List ℕ) where
   length-kept i within = field_at-append a b (37_860 + 4 * i) (omega arith)
 
   bad-more : (offset : ℕ) → HasBadField a offset → HasBadField (a ++ b) offset
-  bad-more offset (stands, inl (is, number)) =
-      let same = count-kept (omega (arith, stands, is)) in (omega (arith, stands, length-append a b), inl (is, omega (arith, number, same)))
-  bad-more offset (stands, inr (i, below, inl (is, inl high))) =
-      let count = count-kept (omega (arith, stands, is)) in let same = start-kept i (omega (arith, stands, is)) in
-      (omega (arith, stands, length-append a b), inr (i, omega (arith, below, count), inl (is, inl (omega (arith, high, same)))))
-  bad-more offset (stands, inr (i, below, inl (is, inr (some, touching)))) =
-      let count = count-kept (omega (arith, stands, is)) in let same = start-kept i (omega (arith, stands, is)) in
-      let before = end-kept (i - 1) (omega (arith, stands, is, some)) in
-      (omega (arith, stands, length-append a b), inr (i, omega (arith, below, count), inl (is, inr (some, omega (arith, touching, same, before)))))
-  bad-more offset (stands, inr (i, below, inr (is, inl none))) =
-      let count = count-kept (omega (arith, stands, is)) in let same = length-kept i (omega (arith, stands, is)) in
-      (omega (arith, stands, length-append a b), inr (i, omega (arith, below, count), inr (is, inl (omega (arith, none, same)))))
-  bad-more offset (stands, inr (i, below, inr (is, inr past))) =
-      let count = count-kept (omega (arith, stands, is)) in let same = end-kept i (omega (arith, stands, is)) in
-      (omega (arith, stands, length-append a b), inr (i, omega (arith, below, count), inr (is, inr (omega (arith, past, same)))))
+  bad-more offset (is_there, inl (is, number)) =
+      let same = count-kept (omega (arith, is_there, is)) in (omega (arith, is_there, length-append a b), inl (is, omega (arith, number, same)))
+  bad-more offset (is_there, inr (i, below, inl (is, inl high))) =
+      let count = count-kept (omega (arith, is_there, is)) in let same = start-kept i (omega (arith, is_there, is)) in
+      (omega (arith, is_there, length-append a b), inr (i, omega (arith, below, count), inl (is, inl (omega (arith, high, same)))))
+  bad-more offset (is_there, inr (i, below, inl (is, inr (some, touching)))) =
+      let count = count-kept (omega (arith, is_there, is)) in let same = start-kept i (omega (arith, is_there, is)) in
+      let before = end-kept (i - 1) (omega (arith, is_there, is, some)) in
+      (omega (arith, is_there, length-append a b), inr (i, omega (arith, below, count), inl (is, inr (some, omega (arith, touching, same, before)))))
+  bad-more offset (is_there, inr (i, below, inr (is, inl none))) =
+      let count = count-kept (omega (arith, is_there, is)) in let same = length-kept i (omega (arith, is_there, is)) in
+      (omega (arith, is_there, length-append a b), inr (i, omega (arith, below, count), inr (is, inl (omega (arith, none, same)))))
+  bad-more offset (is_there, inr (i, below, inr (is, inr past))) =
+      let count = count-kept (omega (arith, is_there, is)) in let same = end-kept i (omega (arith, is_there, is)) in
+      (omega (arith, is_there, length-append a b), inr (i, omega (arith, below, count), inr (is, inr (omega (arith, past, same)))))
 
   bad-before : (offset : ℕ) → offset + 2 ≤ length a → HasBadField (a ++ b) offset → HasBadField a offset
-  bad-before offset stands (whole, inl (is, number)) =
-      let same = count-kept (omega (arith, stands, is)) in (stands, inl (is, omega (arith, number, same)))
-  bad-before offset stands (whole, inr (i, below, inl (is, inl high))) =
-      let count = count-kept (omega (arith, stands, is)) in let same = start-kept i (omega (arith, stands, is)) in
-      (stands, inr (i, omega (arith, below, count), inl (is, inl (omega (arith, high, same)))))
-  bad-before offset stands (whole, inr (i, below, inl (is, inr (some, touching)))) =
-      let count = count-kept (omega (arith, stands, is)) in let same = start-kept i (omega (arith, stands, is)) in
-      let before = end-kept (i - 1) (omega (arith, stands, is, some)) in
-      (stands, inr (i, omega (arith, below, count), inl (is, inr (some, omega (arith, touching, same, before)))))
-  bad-before offset stands (whole, inr (i, below, inr (is, inl none))) =
-      let count = count-kept (omega (arith, stands, is)) in let same = length-kept i (omega (arith, stands, is)) in
-      (stands, inr (i, omega (arith, below, count), inr (is, inl (omega (arith, none, same)))))
-  bad-before offset stands (whole, inr (i, below, inr (is, inr past))) =
-      let count = count-kept (omega (arith, stands, is)) in let same = end-kept i (omega (arith, stands, is)) in
-      (stands, inr (i, omega (arith, below, count), inr (is, inr (omega (arith, past, same)))))
+  bad-before offset is_there (whole, inl (is, number)) =
+      let same = count-kept (omega (arith, is_there, is)) in (is_there, inl (is, omega (arith, number, same)))
+  bad-before offset is_there (whole, inr (i, below, inl (is, inl high))) =
+      let count = count-kept (omega (arith, is_there, is)) in let same = start-kept i (omega (arith, is_there, is)) in
+      (is_there, inr (i, omega (arith, below, count), inl (is, inl (omega (arith, high, same)))))
+  bad-before offset is_there (whole, inr (i, below, inl (is, inr (some, touching)))) =
+      let count = count-kept (omega (arith, is_there, is)) in let same = start-kept i (omega (arith, is_there, is)) in
+      let before = end-kept (i - 1) (omega (arith, is_there, is, some)) in
+      (is_there, inr (i, omega (arith, below, count), inl (is, inr (some, omega (arith, touching, same, before)))))
+  bad-before offset is_there (whole, inr (i, below, inr (is, inl none))) =
+      let count = count-kept (omega (arith, is_there, is)) in let same = length-kept i (omega (arith, is_there, is)) in
+      (is_there, inr (i, omega (arith, below, count), inr (is, inl (omega (arith, none, same)))))
+  bad-before offset is_there (whole, inr (i, below, inr (is, inr past))) =
+      let count = count-kept (omega (arith, is_there, is)) in let same = end-kept i (omega (arith, is_there, is)) in
+      (is_there, inr (i, omega (arith, below, count), inr (is, inr (omega (arith, past, same)))))
 
   -- so the first of them stays the first
   pub broken-more : (at : ℕ) → IsBrokenAt a at → IsBrokenAt (a ++ b) at
@@ -80,15 +80,15 @@ module _ (a b : List ℕ) where
     bad = bad-more at broken.bad;
     first = λ offset bad. elim (leb_tells at offset) [
       | inl later ↦ later.1
-      | inr earlier ↦ let e = earlier.1 in let stands = broken.bad.0 in broken.first offset (bad-before offset (omega (arith, e, stands)) bad)
+      | inr earlier ↦ let e = earlier.1 in let is_there = broken.bad.0 in broken.first offset (bad-before offset (omega (arith, e, is_there)) bad)
     ];
   }
 
 -- before a unit's first field is whole nothing is broken
 pub early-unbroken : (bytes : List ℕ) → length bytes < 37_858 → IsUnbroken bytes
-early-unbroken bytes few offset (stands, inl (is, number)) = omega arith
-early-unbroken bytes few offset (stands, inr (i, below, inl (is, start))) = omega arith
-early-unbroken bytes few offset (stands, inr (i, below, inr (is, long))) = omega arith
+early-unbroken bytes few offset (is_there, inl (is, number)) = omega arith
+early-unbroken bytes few offset (is_there, inr (i, below, inl (is, start))) = omega arith
+early-unbroken bytes few offset (is_there, inr (i, below, inr (is, long))) = omega arith
 
 -- and the unit has more bytes, so it is cut
 pub early-cut : (bytes : List ℕ) → length bytes < 37_858 → IsCut bytes
@@ -98,15 +98,15 @@ early-cut bytes few = record { fewer = omega arith; unbroken = early-unbroken by
 module _ (bytes : List ℕ) (size : length bytes ≡ 37_858) where
   -- with at most 18,928 runs no rule is broken
   pub number-unbroken : run_count bytes ≤ 18_928 → IsUnbroken bytes
-  number-unbroken few offset (stands, inl (is, number)) = omega arith
-  number-unbroken few offset (stands, inr (i, below, inl (is, start))) = omega arith
-  number-unbroken few offset (stands, inr (i, below, inr (is, long))) = omega arith
+  number-unbroken few offset (is_there, inl (is, number)) = omega arith
+  number-unbroken few offset (is_there, inr (i, below, inl (is, start))) = omega arith
+  number-unbroken few offset (is_there, inr (i, below, inr (is, long))) = omega arith
 
   -- a field that breaks a rule is the number of runs, or comes after it
   number-first : (offset : ℕ) → HasBadField bytes offset → 37_856 ≤ offset
-  number-first offset (stands, inl (is, number)) = omega arith
-  number-first offset (stands, inr (i, below, inl (is, start))) = omega arith
-  number-first offset (stands, inr (i, below, inr (is, long))) = omega arith
+  number-first offset (is_there, inl (is, number)) = omega arith
+  number-first offset (is_there, inr (i, below, inl (is, start))) = omega arith
+  number-first offset (is_there, inr (i, below, inr (is, long))) = omega arith
 
   -- with more runs the first field that breaks a rule is their number
   pub number-broken : 18_928 < run_count bytes → IsBrokenAt bytes 37_856
@@ -173,30 +173,30 @@ module _ (bytes own : List ℕ) (count n end : ℕ) (mark : ℕ → Bool) (has :
   -- where a field of any run breaks a rule, it is run n, as the earlier ones break none
   run-is : (Breaks : ℕ → Type 0) → ((i : ℕ) → i < n → i < count → Breaks i → ⊥) → (i : ℕ) → length own ≤ 4 → 37_860 + 4 * i ≤ length (bytes ++ own) → i < count → Breaks i
       → (((nat_le (suc i) n ≡ true) × (suc i ≤ n)) ⊎ ((nat_le (suc i) n ≡ false) × (n < suc i))) → i ≡ n
-  run-is Breaks fine i few stands inside breaks (inl below) = absurd (fine i (omega (arith, below.1)) inside breaks)
-  run-is Breaks fine i few stands inside breaks (inr above) = omega (arith, above.1, grown)
+  run-is Breaks fine i few is_there inside breaks (inl below) = absurd (fine i (omega (arith, below.1)) inside breaks)
+  run-is Breaks fine i few is_there inside breaks (inr above) = omega (arith, above.1, grown)
 
   -- at most four bytes after n runs, a field that breaks a rule is the start of run n or its length
   pub next-bad : length own ≤ 4 → (offset : ℕ) → HasBadField (bytes ++ own) offset → IsNext offset
-  next-bad few offset (stands, inl (is, number)) =
+  next-bad few offset (is_there, inl (is, number)) =
       let s = has.size in let same = same-count in
       absurd (has.unbroken offset (omega arith, inl (is, omega (arith, number, same, has.number))))
-  next-bad few offset (stands, inr (i, below, inl (is, start))) =
+  next-bad few offset (is_there, inr (i, below, inl (is, start))) =
       let inside : i < count = omega (arith, below, same-count) in
-      let same = run-is (BreaksStart (bytes ++ own)) start-fine i few (omega (arith, stands, is)) inside start (leb_tells (suc i) n) in
-      inl (omega (arith, is, same), omega (arith, stands, is, same, grown), subst (BreaksStart (bytes ++ own)) same start)
-  next-bad few offset (stands, inr (i, below, inr (is, long))) =
+      let same = run-is (BreaksStart (bytes ++ own)) start-fine i few (omega (arith, is_there, is)) inside start (leb_tells (suc i) n) in
+      inl (omega (arith, is, same), omega (arith, is_there, is, same, grown), subst (BreaksStart (bytes ++ own)) same start)
+  next-bad few offset (is_there, inr (i, below, inr (is, long))) =
       let inside : i < count = omega (arith, below, same-count) in
-      let same = run-is (BreaksLength (bytes ++ own)) length-fine i few (omega (arith, stands, is)) inside long (leb_tells (suc i) n) in
-      inr (omega (arith, is, same), omega (arith, stands, is, same, grown), subst (BreaksLength (bytes ++ own)) same long)
+      let same = run-is (BreaksLength (bytes ++ own)) length-fine i few (omega (arith, is_there, is)) inside long (leb_tells (suc i) n) in
+      inr (omega (arith, is, same), omega (arith, is_there, is, same, grown), subst (BreaksLength (bytes ++ own)) same long)
 
   -- what run n is, by its own bytes
   start-is : start_of (bytes ++ own) n ≡ field_at own 0
-  start-is = field_at-behind bytes own (37_858 + 4 * n) 0 (let s = has.size in omega arith)
+  start-is = field_at-after bytes own (37_858 + 4 * n) 0 (let s = has.size in omega arith)
 
   -- its length is the second field after the n runs
   length-is : length_of (bytes ++ own) n ≡ field_at own 2
-  length-is = field_at-behind bytes own (37_860 + 4 * n) 2 (let s = has.size in omega arith)
+  length-is = field_at-after bytes own (37_860 + 4 * n) 2 (let s = has.size in omega arith)
 
   -- a start above the end of the run before
   abbrev pub IsFine : ℕ → Type 0
@@ -214,8 +214,8 @@ module _ (bytes own : List ℕ) (count n end : ℕ) (mark : ℕ → Bool) (has :
 
     -- before the start of run n is whole, no field of it breaks a rule
     no-start : length own < 2 → (offset : ℕ) → IsNext offset → ⊥
-    no-start few offset (inl (is, stands, breaks)) = omega arith
-    no-start few offset (inr (is, stands, breaks)) = omega arith
+    no-start few offset (inl (is, is_there, breaks)) = omega arith
+    no-start few offset (inr (is, is_there, breaks)) = omega arith
 
     -- the unit is cut within the start of run n
     pub cut-in-start : length own < 2 → IsCut (bytes ++ own)
@@ -226,8 +226,8 @@ module _ (bytes own : List ℕ) (count n end : ℕ) (mark : ℕ → Bool) (has :
 
     -- before the length of run n is whole, and with a start that breaks no rule, no field of it breaks one
     no-length : length own < 4 → IsFine (field_at own 0) → (offset : ℕ) → IsNext offset → ⊥
-    no-length few fine offset (inl (is, stands, breaks)) = start-valid fine breaks
-    no-length few fine offset (inr (is, stands, breaks)) = omega arith
+    no-length few fine offset (inl (is, is_there, breaks)) = start-valid fine breaks
+    no-length few fine offset (inr (is, is_there, breaks)) = omega arith
 
     -- or within its length
     pub cut-in-length : length own < 4 → IsFine (field_at own 0) → IsCut (bytes ++ own)
@@ -243,8 +243,8 @@ module _ (bytes own : List ℕ) (count n end : ℕ) (mark : ℕ → Bool) (has :
 
     -- no field before the start of run n breaks a rule
     first-next : (offset : ℕ) → IsNext offset → 37_858 + 4 * n ≤ offset
-    first-next offset (inl (is, stands, breaks)) = omega arith
-    first-next offset (inr (is, stands, breaks)) = omega arith
+    first-next offset (inl (is, is_there, breaks)) = omega arith
+    first-next offset (inr (is, is_there, breaks)) = omega arith
 
     -- its start breaks a rule
     pub broken-start : length own ≡ 2 → (37_856 ≤ field_at own 0) ⊎ ((0 < n) × (field_at own 0 ≤ end)) → IsBrokenAt (bytes ++ own) (37_858 + 4 * n)
@@ -260,8 +260,8 @@ module _ (bytes own : List ℕ) (count n end : ℕ) (mark : ℕ → Bool) (has :
 
     -- where the start of run n breaks no rule, no field before its length does
     second-next : IsFine (field_at own 0) → (offset : ℕ) → IsNext offset → 37_860 + 4 * n ≤ offset
-    second-next fine offset (inl (is, stands, breaks)) = absurd (start-valid fine breaks)
-    second-next fine offset (inr (is, stands, breaks)) = omega arith
+    second-next fine offset (inl (is, is_there, breaks)) = absurd (start-valid fine breaks)
+    second-next fine offset (inr (is, is_there, breaks)) = omega arith
 
     -- or its length does
     pub broken-length : length own ≡ 4 → IsFine (field_at own 0) → (field_at own 2 ≡ 0) ⊎ (37_856 < field_at own 0 + field_at own 2)
@@ -278,8 +278,8 @@ module _ (bytes own : List ℕ) (count n end : ℕ) (mark : ℕ → Bool) (has :
 
     -- where neither the start of run n nor its length breaks a rule, no field of the bytes does
     no-next : IsFine (field_at own 0) → 0 < field_at own 2 → field_at own 0 + field_at own 2 ≤ 37_856 → (offset : ℕ) → IsNext offset → ⊥
-    no-next fine some within offset (inl (is, stands, breaks)) = start-valid fine breaks
-    no-next fine some within offset (inr (is, stands, breaks)) = length-valid some within breaks
+    no-next fine some within offset (inl (is, is_there, breaks)) = start-valid fine breaks
+    no-next fine some within offset (inr (is, is_there, breaks)) = length-valid some within breaks
 
     -- it is one run more
     pub one-run-more : (mark_now : ℕ → Bool) → length own ≡ 4 → IsFine (field_at own 0) → 0 < field_at own 2 → field_at own 0 + field_at own 2 ≤ 37_856
@@ -290,7 +290,7 @@ module _ (bytes own : List ℕ) (count n end : ℕ) (mark : ℕ → Bool) (has :
       number = same-count;
       unbroken = λ offset bad. no-next fine some within offset (next-bad (omega arith) offset bad);
       none = λ is. absurd (omega arith);
-      last = λ behind. let same : n + 1 - 1 ≡ n = omega arith in rw same (let is = length-is in let s = start-is in omega (arith, is, s));
+      last = λ farther. let same : n + 1 - 1 ≡ n = omega arith in rw same (let is = length-is in let s = start-is in omega (arith, is, s));
       marks = λ place place_below. marked place place_below ∙ sym (by_run place place_below);
     } where
       by_run : (place : ℕ) → place < 37_856 → marked_by (bytes ++ own) (n + 1) place ≡ (mark place || (nat_le (field_at own 0) place && nat_lt place (field_at own 0 + field_at own 2)))

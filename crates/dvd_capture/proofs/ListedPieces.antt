@@ -170,7 +170,7 @@ fields-begun rows mark are old new count field few fields none =
         runs = subst (λ l. HasRuns l count 0 0 mark) (sym (append-nil (rows ++ first.own))) first.runs;
         whole = omega arith;
         few = omega arith;
-        start = λ stands. absurd (omega (arith, stands));
+        start = λ is_there. absurd (omega (arith, is_there));
       };
     })
 

@@ -9,7 +9,7 @@ use Rattle.dvd_capture.specs.Listed.{field_at, marked_by, run_count}
 use Rattle.dvd_capture.specs.Inner.Listing.{AreRows, HasRuns, IsNoField, IsStop, IsStopped, TakesField, TakesRuns}
 use Rattle.dvd_capture.specs.declared.capture.FetchAnswer.{FetchAnswer}
 use Rattle.dvd_capture.specs.declared.capture.FetchAnswer.TheVariants.{Full, End, Short, ReadFault, BadMarks}
-use Rattle.dvd_capture.proofs.ListedFields.{early-cut, field_at-append, field_at-behind, number-broken, number-unbroken}
+use Rattle.dvd_capture.proofs.ListedFields.{early-cut, field_at-append, field_at-after, number-broken, number-unbroken}
 
 -- two fields one after the other
 pub first-field : (start long : List ℕ) → length start ≡ 2 → field_at (start ++ long) 0 ≡ field_at start 0
@@ -17,7 +17,7 @@ first-field start long size = field_at-append start long 0 (omega arith)
 
 -- the second is the field at offset 2
 pub second-field : (start long : List ℕ) → length start ≡ 2 → field_at (start ++ long) 2 ≡ field_at long 0
-second-field start long size = field_at-behind start long 2 0 (omega arith)
+second-field start long size = field_at-after start long 2 0 (omega arith)
 
 -- what holds of the error that an answer is
 pub if_err : {A : Type 0} (answer : Result A FetchAnswer) (error : FetchAnswer) (P : FetchAnswer → Type 0) → IsErrAnd answer (λ e. e ≡ error) → P error → IfErr answer P
@@ -63,7 +63,7 @@ module _ (rows : List ℕ) (mark : ℕ → Bool) (are : AreRows rows mark) (old 
 
     -- and the number that was taken is the unit's number of runs
     number-is : run_count (rows ++ field.own) ≡ number
-    number-is = field_at-behind rows field.own 37_856 0 (let r = are.0 in omega arith) ∙ field.is
+    number-is = field_at-after rows field.own 37_856 0 (let r = are.0 in omega arith) ∙ field.is
 
     -- there are too many
     pub stopped-at-number : 18_928 < number → IsStopped rows old new (BadMarks 37_856)
@@ -90,17 +90,17 @@ module _ (rows : List ℕ) (mark : ℕ → Bool) (are : AreRows rows mark) (old 
     }
 
 -- what is taken after what was taken
-pub runs-behind : (bytes : List ℕ) (old mid new : Option (List ℕ)) (count n end next_end m : ℕ) (mark mark_now : ℕ → Bool)
+pub runs-after : (bytes : List ℕ) (old mid new : Option (List ℕ)) (count n end next_end m : ℕ) (mark mark_now : ℕ → Bool)
     → (t : TakesRuns bytes count n end mark old mid) → TakesRuns (bytes ++ t.own) count m next_end mark_now mid new → TakesRuns bytes count m next_end mark_now old new
-runs-behind bytes old mid new count n end next_end m mark mark_now t more = record {
+runs-after bytes old mid new count n end next_end m mark mark_now t more = record {
   own = t.own ++ more.own;
   taken = Consumes-then old mid new t.own more.own t.taken more.taken;
   runs = subst (λ l. HasRuns l count m next_end mark_now) (append_assoc bytes t.own more.own) more.runs;
 }
 
 -- a unit that isn't fetched after more of its bytes isn't fetched after these either
-pub stopped-behind : (bytes own : List ℕ) (old mid new : Option (List ℕ)) (answer : FetchAnswer) → Consumes old mid own → IsStopped (bytes ++ own) mid new answer → IsStopped bytes old new answer
-stopped-behind bytes own old mid new answer takes more = record {
+pub stopped-after : (bytes own : List ℕ) (old mid new : Option (List ℕ)) (answer : FetchAnswer) → Consumes old mid own → IsStopped (bytes ++ own) mid new answer → IsStopped bytes old new answer
+stopped-after bytes own old mid new answer takes more = record {
   own = own ++ more.own;
   taken = Consumes-then old mid new own more.own takes more.taken;
   stops = subst (λ l. IsStop l new answer) (append_assoc bytes own more.own) more.stops;
@@ -109,4 +109,4 @@ stopped-behind bytes own old mid new answer takes more = record {
 -- and so where an answer is the error that says why
 pub stopped_result : {A : Type 0} (bytes own : List ℕ) (old mid new : Option (List ℕ)) (error : FetchAnswer) (answer : Result A FetchAnswer) → IsErrAnd answer (λ e. e ≡ error)
     → Consumes old mid own → IsStopped (bytes ++ own) mid new error → IfErr answer (IsStopped bytes old new)
-stopped_result bytes own old mid new error answer is takes more = if_err answer error (IsStopped bytes old new) is (stopped-behind bytes own old mid new error takes more)
+stopped_result bytes own old mid new error answer is takes more = if_err answer error (IsStopped bytes old new) is (stopped-after bytes own old mid new error takes more)

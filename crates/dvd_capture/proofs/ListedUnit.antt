@@ -48,8 +48,8 @@ marks-listed marks bytes count height width number same = mapped row marks 208 [
         let m = record_at-lt i below in
         let quotient : (182 * record_at i + j) / 182 ≡ record_at i = omega arith in
         let rest : (182 * record_at i + j) % 182 ≡ j = omega arith in
-        let stands : row_at ((182 * record_at i + j) / 182) ≡ i = ap row_at quotient ∙ row_at-record_at i below in
-        ap (λ r. get_or (get_or marks r []) j false) (sym stands)
+        let is_there : row_at ((182 * record_at i + j) / 182) ≡ i = ap row_at quotient ∙ row_at-record_at i below in
+        ap (λ r. get_or (get_or marks r []) j false) (sym is_there)
         ∙ ap (λ k. get_or (get_or marks (row_at ((182 * record_at i + j) / 182)) []) k false) (sym rest)
         ∙ same (182 * record_at i + j) (omega (arith, m))
         ∙ ap (λ n. marked_by bytes n (182 * record_at i + j)) (sym number)

@@ -20,7 +20,7 @@ use Rattle.dvd_capture.specs.Listing.{AppendsPart, AppendsUnit}
 use Rattle.dvd_capture.specs.Inner.Listing.{AppendsAll, AppendsSome, AreFields, AreMarked, HasRuns, IsFound, starts_below}
 use Rattle.dvd_capture.proofs.ListedUnit.{marks-listed, rows-listed}
 use Rattle.dvd_capture.proofs.RecordedRows.{length-recording, recording_captured}
-use Rattle.dvd_capture.proofs.ListedFields.{field_at-behind, number-unbroken, one-run-more}
+use Rattle.dvd_capture.proofs.ListedFields.{field_at-after, number-unbroken, one-run-more}
 use Rattle.dvd_capture.proofs.ListedTaken.{field-read, first-field, second-field}
 use Rattle.dvd_capture.proofs.RunStarts.{IsNextRun, counted-next, none_left, run-apart, same_starts-before, some-length, starts-few, starts-none}
 
@@ -63,7 +63,7 @@ pub record IsBegun (bytes : List ℕ) (mark : ℕ → Bool) (n end : ℕ) : Type
 between : (mark : ℕ → Bool) (place end start next : ℕ) → end ≤ start → start ≤ next → (end ≤ place → place < start → mark place ≡ false)
     → (start ≤ place → place < next → mark place ≡ true)
     → below mark next place ≡ (below mark end place || (nat_le start place && nat_lt place next))
-between mark place end start next behind order unmarked marked = by_end (leb_tells end place) where
+between mark place end start next past order unmarked marked = by_end (leb_tells end place) where
   by_next : start ≤ place → (((nat_le next place ≡ true) × (next ≤ place)) ⊎ ((nat_le next place ≡ false) × (place < next)))
       → below mark next place ≡ (below mark end place || (nat_le start place && nat_lt place next))
   by_next high (inl is) = let far = is.1 in grind (arith, nat_tests)
@@ -123,7 +123,7 @@ module _ (bytes : List ℕ) (mark : ℕ → Bool) (n end start next : ℕ) (begu
       let ends : field_at run_bytes 0 + field_at run_bytes 2 ≡ next = omega (arith, sf, lf, some) in record {
         runs = subst (λ e. HasRuns (bytes ++ run_bytes) (starts_below mark 37_856) (n + 1) e (below mark next)) ends
             (one-run-more bytes run_bytes (starts_below mark 37_856) n end (below mark end) begun.runs more (below mark next) refl
-            (omega (arith, sf, inside), λ behind. let apart = run-apart mark n end start next begun.clear begun.counted run start-inside (some_end behind) in omega (arith, sf, apart))
+            (omega (arith, sf, inside), λ past. let apart = run-apart mark n end start next begun.clear begun.counted run start-inside (some_end past) in omega (arith, sf, apart))
             (omega (arith, lf, some)) (omega (arith, ends, w))
             (λ place place_below. between mark place end start next run.starts.least run.ends.least (run.starts.passed place) (run.ends.passed place)
             ∙ ap (λ s. below mark end place || (nat_le s place && nat_lt place next)) (sym sf)
@@ -164,7 +164,7 @@ unfolding marked_by
 none-written rows mark size =
     let bytes : List ℕ = rows ++ to_be_bytes w16 (starts_below mark 37_856) in
     let few = starts-few mark in
-    let number : run_count bytes ≡ starts_below mark 37_856 = field_at-behind rows (to_be_bytes w16 (starts_below mark 37_856)) 37_856 0 (omega (arith, size)) ∙ field-written (starts_below mark 37_856) (omega (arith, few)) in
+    let number : run_count bytes ≡ starts_below mark 37_856 = field_at-after rows (to_be_bytes w16 (starts_below mark 37_856)) 37_856 0 (omega (arith, size)) ∙ field-written (starts_below mark 37_856) (omega (arith, few)) in
     let whole : length bytes ≡ 37_858 = length-append rows (to_be_bytes w16 (starts_below mark 37_856)) ∙ omega (arith, size) in record {
       runs = record {
         size = omega (arith, whole);
@@ -297,17 +297,17 @@ module _ (rows : List ℕ) (mark : ℕ → Bool) (size : length rows ≡ 37_856)
   all-put n end own all put = record { bytes = put.bytes; count = n; end = end; runs = all-written (rows ++ own) mark n end put.begun all }
 
 -- a piece of which a front was written, and what is written before and after it
-pub prefix-behind : (old mid new : Option (List ℕ)) (own piece rest : List ℕ) → Appends old mid own → AppendsPrefix mid new piece → AppendsPrefix old new (own ++ (piece ++ rest))
-prefix-behind old mid new own piece rest before part = record {
+pub prefix-after : (old mid new : Option (List ℕ)) (own piece rest : List ℕ) → Appends old mid own → AppendsPrefix mid new piece → AppendsPrefix old new (own ++ (piece ++ rest))
+prefix-after old mid new own piece rest before part = record {
   taken = own ++ part.taken;
   rest = part.rest ++ rest;
   grows = Appends-then old mid new own part.taken before part.grows;
   whole = append_assoc own part.taken (part.rest ++ rest) ∙ ap (λ l. own ++ l) (sym (append_assoc part.taken part.rest rest) ∙ ap (λ l. l ++ rest) part.whole);
-  more = λ none. part.more (front_empty part.rest rest none);
+  more = λ none. part.more (prefix_empty part.rest rest none);
 } where
-  front_empty : (a b : List ℕ) → a ++ b ≡ [] → a ≡ []
-  front_empty [] b none = refl
-  front_empty (x ∷ a) b none = absurd (let size = ap length none in omega (arith, size))
+  prefix_empty : (a b : List ℕ) → a ++ b ≡ [] → a ≡ []
+  prefix_empty [] b none = refl
+  prefix_empty (x ∷ a) b none = absurd (let size = ap length none in omega (arith, size))
 
 -- what holds of an answer in each case
 pub on_ok-map : {T E : Type 0} (r : Result T E) (P Q : Type 0) → (P → Q) → OnOk r P → OnOk r Q
@@ -337,8 +337,8 @@ module _ (rows : List (List ℕ)) (height : length rows ≡ 208) (widths : (i : 
       valid = runs.unbroken;
       rows_are = rows-listed (recording rows) own recording_size ∙ recording_captured rows height wide;
       marks_are = sym (marks-listed marks (recording rows ++ own) count marks_height marks_widths runs.number runs.marks);
-      fields = λ offset behind.
-          let is : length (recording rows) + (offset - 37_856) ≡ offset = omega (arith, recording_size, behind) in
+      fields = λ offset past.
+          let is : length (recording rows) + (offset - 37_856) ≡ offset = omega (arith, recording_size, past) in
           let same : slice_index (recording rows ++ own) offset ≡ slice_index own (offset - 37_856) =
           ap (λ n. get_or (recording rows ++ own) n 0) (sym is) ∙ get_or-append-add (recording rows) own (offset - 37_856) 0 in
           subst (λ n. n < 256) (sym same) (small (offset - 37_856));
@@ -357,7 +357,7 @@ module _ (rows : List (List ℕ)) (height : length rows ≡ 208) (widths : (i : 
     runs-begun old mid new before some = record {
       unit = recording rows ++ some.own;
       is_unit = unit-of some.own some.are.bytes some.are.count some.are.end some.are.runs;
-      part = subst (λ l. AppendsPrefix old new (recording rows ++ l)) (append-nil some.own) (prefix-behind old mid new (recording rows) some.own [] before some.part);
+      part = subst (λ l. AppendsPrefix old new (recording rows ++ l)) (append-nil some.own) (prefix-after old mid new (recording rows) some.own [] before some.part);
     }
 
     -- or a front of the rows
@@ -368,7 +368,7 @@ module _ (rows : List (List ℕ)) (height : length rows ≡ 208) (widths : (i : 
           unit = recording rows ++ (number ++ after.rest);
           is_unit = unit-of (number ++ after.rest) (small-append number after.rest (small-field (starts_below (mark_of marks) 37_856)) after.small) after.count after.end
               (subst (λ l. HasRuns l after.count after.count after.end (mark_of marks)) (append_assoc (recording rows) number after.rest) after.runs);
-          part = prefix-behind old old new [] (recording rows) (number ++ after.rest) (Appends-none old) part;
+          part = prefix-after old old new [] (recording rows) (number ++ after.rest) (Appends-none old) part;
         }
 
 -- any rows and marks have a unit

@@ -61,10 +61,10 @@ module _ (row : List ℕ) where
   -- and all eight
   before-eight : (k : ℕ) → k < 22 → before (8 * k + 8) ≡ before (8 * k) + eight (get_or row k 0)
   before-eight k few =
-      let front = before-six k (omega (arith, few)) in
+      let prefix = before-six k (omega (arith, few)) in
       let g = next-bit k 6 1 (8 * k + 6) (8 * k + 7) (omega arith) (omega arith) (omega arith) (omega (arith, few)) in
       let h = next-bit k 7 0 (8 * k + 7) (8 * k + 8) (omega arith) (omega arith) (omega arith) (omega (arith, few)) in
-      omega (arith, front, g, h)
+      omega (arith, prefix, g, h)
 
   -- a count that goes on by the ones of a byte
   pub ones-counted : (k count : ℕ) → k < 22 → get_or row k 0 < 256 → count ≡ before (8 * k) → count + count_ones (get_or row k 0) ≡ before (8 * (k + 1))

@@ -182,19 +182,19 @@ module _ (bytes : List ℕ) where
 
 module _ (rows : List (List ℕ)) (marks : List (List Bool)) (unit : List ℕ) (is : IsUnitOf rows marks unit) where
   -- the fields of each of its runs are in the unit
-  stands : (i offset : ℕ) → i < run_count unit → offset ≤ 37_860 + 4 * i → offset + 2 ≤ length unit
-  stands i offset below low = let size = is.size in omega (arith, size, below, low)
+  is_there : (i offset : ℕ) → i < run_count unit → offset ≤ 37_860 + 4 * i → offset + 2 ≤ length unit
+  is_there i offset below low = let size = is.size in omega (arith, size, below, low)
 
   -- as no rule is broken, each run has a place
   run-some : (i : ℕ) → i < run_count unit → (((nat_le 1 (length_of unit i) ≡ true) × (1 ≤ length_of unit i)) ⊎ ((nat_le 1 (length_of unit i) ≡ false) × (length_of unit i < 1))) → start_of unit i < end_of unit i
   run-some i below (inl has) = let h = has.1 in omega (arith, h)
   run-some i below (inr none) = let n = none.1 in
-      absurd (is.valid (37_860 + 4 * i) (stands i (37_860 + 4 * i) below (omega arith), inr (i, below, inr (refl, inl (omega (arith, n))))))
+      absurd (is.valid (37_860 + 4 * i) (is_there i (37_860 + 4 * i) below (omega arith), inr (i, below, inr (refl, inl (omega (arith, n))))))
 
   -- each run ends within the block
   run-within : (i : ℕ) → i < run_count unit → (((nat_le (end_of unit i) 37_856 ≡ true) × (end_of unit i ≤ 37_856)) ⊎ ((nat_le (end_of unit i) 37_856 ≡ false) × (37_856 < end_of unit i))) → end_of unit i ≤ 37_856
   run-within i below (inl has) = has.1
-  run-within i below (inr past) = absurd (is.valid (37_860 + 4 * i) (stands i (37_860 + 4 * i) below (omega arith), inr (i, below, inr (refl, inr past.1))))
+  run-within i below (inr past) = absurd (is.valid (37_860 + 4 * i) (is_there i (37_860 + 4 * i) below (omega arith), inr (i, below, inr (refl, inr past.1))))
 
   -- and each run but the last ends below the start of the next
   run-apart : (i : ℕ) → suc i < run_count unit
@@ -204,7 +204,7 @@ module _ (rows : List (List ℕ)) (marks : List (List Bool)) (unit : List ℕ) (
   run-apart i below (inl touching) =
       let before : suc i - 1 ≡ i = omega arith in
       absurd (is.valid (37_858 + 4 * suc i) (
-        stands (suc i) (37_858 + 4 * suc i) below (omega arith),
+        is_there (suc i) (37_858 + 4 * suc i) below (omega arith),
         inr (suc i, below, inl (refl, inr (omega arith, subst (λ j. start_of unit (suc i) ≤ end_of unit j) (sym before) touching.1))),
       ))
 
@@ -281,23 +281,23 @@ module _ (rows : List (List ℕ)) (marks : List (List Bool)) (a b : List ℕ)
   -- fields that are the same have the same bytes
   first_byte : (offset : ℕ) → 37_856 ≤ offset → field_at a offset ≡ field_at b offset → slice_index a offset ≡ slice_index b offset
   unfolding field_at
-  first_byte offset behind same =
-      let next : 37_856 ≤ offset + 1 = omega (arith, behind) in
-      let x = is_a.fields offset behind in let y = is_b.fields offset behind in
+  first_byte offset farther same =
+      let next : 37_856 ≤ offset + 1 = omega (arith, farther) in
+      let x = is_a.fields offset farther in let y = is_b.fields offset farther in
       let z = is_a.fields (offset + 1) next in let w = is_b.fields (offset + 1) next in omega (arith, same, x, y, z, w)
 
   -- the byte after the first one of the field
   second_byte : (offset : ℕ) → 37_856 ≤ offset → field_at a offset ≡ field_at b offset → slice_index a (offset + 1) ≡ slice_index b (offset + 1)
   unfolding field_at
-  second_byte offset behind same =
-      let next : 37_856 ≤ offset + 1 = omega (arith, behind) in
-      let x = is_a.fields offset behind in let y = is_b.fields offset behind in
+  second_byte offset farther same =
+      let next : 37_856 ≤ offset + 1 = omega (arith, farther) in
+      let x = is_a.fields offset farther in let y = is_b.fields offset farther in
       let z = is_a.fields (offset + 1) next in let w = is_b.fields (offset + 1) next in omega (arith, same, x, y, z, w)
 
   -- so either byte of such a field is the same
   in_field : (k offset : ℕ) → 37_856 ≤ offset → field_at a offset ≡ field_at b offset → (k ≡ offset) ⊎ (k ≡ offset + 1) → slice_index a k ≡ slice_index b k
-  in_field k offset behind same (inl is) = subst (λ j. slice_index a j ≡ slice_index b j) (sym is) (first_byte offset behind same)
-  in_field k offset behind same (inr is) = subst (λ j. slice_index a j ≡ slice_index b j) (sym is) (second_byte offset behind same)
+  in_field k offset farther same (inl is) = subst (λ j. slice_index a j ≡ slice_index b j) (sym is) (first_byte offset farther same)
+  in_field k offset farther same (inr is) = subst (λ j. slice_index a j ≡ slice_index b j) (sym is) (second_byte offset farther same)
 
   -- a byte of a field is its first or its second
   one_of_two : (k offset : ℕ) → offset ≤ k → k < offset + 2 → (((nat_le (suc k) (offset + 1) ≡ true) × (suc k ≤ offset + 1)) ⊎ ((nat_le (suc k) (offset + 1) ≡ false) × (offset + 1 < suc k))) → (k ≡ offset) ⊎ (k ≡ offset + 1)
@@ -306,7 +306,7 @@ module _ (rows : List (List ℕ)) (marks : List (List Bool)) (a b : List ℕ)
 
   -- a byte of a field that both units have alike is the same in both
   field_byte : (k offset : ℕ) → 37_856 ≤ offset → offset ≤ k → k < offset + 2 → field_at a offset ≡ field_at b offset → slice_index a k ≡ slice_index b k
-  field_byte k offset behind low high same = in_field k offset behind same (one_of_two k offset low high (leb_tells (suc k) (offset + 1)))
+  field_byte k offset farther low high same = in_field k offset farther same (one_of_two k offset low high (leb_tells (suc k) (offset + 1)))
 
   -- a byte of run i
   run_byte : (k i : ℕ) → i < run_count a → 37_858 + 4 * i ≤ k → k < 37_862 + 4 * i

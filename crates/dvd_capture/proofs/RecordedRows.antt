@@ -7,7 +7,7 @@ use Rattle.dvd_block.proofs.Recorded.{recorded, recorded-add, recorded-more, rec
 use Rattle.dvd_capture.specs.Captured.{captured_rows, record_of, record_size}
 use Rattle.dvd_capture.specs.declared.form.Form.{Form}
 use Rattle.dvd_capture.specs.declared.form.Form.TheVariants.{Plain}
-use Rattle.dvd_capture.proofs.Fetching.{part-append, part-behind, record_at-lt, row_at-lt, row_at-record_at}
+use Rattle.dvd_capture.proofs.Fetching.{part-append, part-after, record_at-lt, row_at-lt, row_at-record_at}
 use Rattle.dvd_capture.proofs.Mapped.{mapped}
 
 -- Rows of one width, that of the recorded rows of a form.
@@ -31,7 +31,7 @@ module _ (form : Form) (rows : List (List ℕ)) (width : (i : ℕ) → i < 208 �
   split m below =
       let all : m + 1 + (207 - m) ≡ 208 = omega arith in
       recording-is rows ∙ ap (λ k. recorded 0 k rows) (sym all) ∙ recorded-add 0 (m + 1) (207 - m) rows
-      ∙ ap (λ front. front ++ recorded (0 + (m + 1)) (207 - m) rows) (one_more m)
+      ∙ ap (λ prefix. prefix ++ recorded (0 + (m + 1)) (207 - m) rows) (one_more m)
 
   -- recorded row m is the row that is there
   pub record_row : (m : ℕ) → m < 208 → record_of form (recording rows) m ≡ line rows (row_at m)
@@ -42,7 +42,7 @@ module _ (form : Form) (rows : List (List ℕ)) (width : (i : ℕ) → i < 208 �
       let before : length (recorded 0 m rows) ≡ size * m = length-recorded m (omega arith) in
       ap (λ bytes. take size (drop (size * m) bytes)) (split m below)
       ∙ part-append (recorded 0 m rows ++ row) (recorded (0 + (m + 1)) (207 - m) rows) (size * m) size (omega (arith, length-append (recorded 0 m rows) row, before, row_width))
-      ∙ part-behind (recorded 0 m rows) row (size * m) size before row_width
+      ∙ part-after (recorded 0 m rows) row (size * m) size before row_width
 
 module _ (block : List (List ℕ)) (height : length block ≡ 208) (widths : All (λ row. length row ≡ 182) block) where
   -- each of the 208 rows has 182 bytes

@@ -32,7 +32,7 @@ start-unmarked mark n none = rw none refl
 
 -- no run starts after a marked place
 start-inside : (mark : ℕ → Bool) (n : ℕ) → 0 < n → mark (n - 1) ≡ true → start_at mark n ≡ 0
-start-inside mark n behind before = by_mark (mark n) refl where
+start-inside mark n past before = by_mark (mark n) refl where
   by_mark : (here : Bool) → mark n ≡ here → start_at mark n ≡ 0
   by_mark true is = start-by mark n true true is before ∙ grind (arith, nat_tests)
   by_mark false is = start-unmarked mark n is

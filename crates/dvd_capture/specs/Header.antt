@@ -17,8 +17,8 @@ header_bytes header =
     ++ 0 ∷ 0 ∷ 0 ∷ 0 ∷ []
 
 -- whether a header may have this byte at a place: three shapes, two zones, any numbers, and the others as they are
-unfoldable pub may_stand : ℕ → ℕ → Bool
-may_stand place byte =
+unfoldable pub may_be_there : ℕ → ℕ → Bool
+may_be_there place byte =
     if nat_lt place 8 then byte == slice_index initial_bytes place
     else if place == 8 then nat_lt byte 3
     else if place == 9 then nat_lt byte 2
@@ -27,10 +27,10 @@ may_stand place byte =
 
 -- each byte is allowed at its place
 abbrev pub IsHeader : List ℕ → Type 0
-IsHeader bytes = (place : ℕ) → place < 32 → may_stand place (slice_index bytes place) ≡ true
+IsHeader bytes = (place : ℕ) → place < 32 → may_be_there place (slice_index bytes place) ≡ true
 
 -- the first byte that isn't allowed at its place
 pub record IsFirstWrongByte (bytes : List ℕ) (at : ℕ) : Type 0 where
   pub within : at < 32
-  pub wrong : may_stand at (slice_index bytes at) ≡ false
-  pub before : (place : ℕ) → place < at → may_stand place (slice_index bytes place) ≡ true
+  pub wrong : may_be_there at (slice_index bytes at) ≡ false
+  pub before : (place : ℕ) → place < at → may_be_there place (slice_index bytes place) ≡ true

@@ -38,7 +38,7 @@ const INITIAL: [u8; 8] = [0x44, 0x56, 0x44, 0x45, 0x43, 0x43, 0, 2];
 impl Header {
     ghost use Rattle.std.specs.Prelude.{ℕ};
     ghost use Rattle.dvd_capture.specs.declared.header.HeaderFault.TheVariants.{Place};
-    ghost use Rattle.dvd_capture.specs.Header.{IsFirstWrongByte, IsHeader, header_bytes, may_stand};
+    ghost use Rattle.dvd_capture.specs.Header.{IsFirstWrongByte, IsHeader, header_bytes, may_be_there};
 
     /// Writes the 32 bytes, whatever they were.
     #[tactic(auto, unfolding(crate::specs::Header::header_bytes))]
@@ -79,10 +79,10 @@ impl Header {
     }
 
     // Whether a header may have this byte at a place. A byte that no field uses is 0. The bytes of numbers are free.
-    #[tactic(auto, unfolding(crate::specs::Header::may_stand))]
+    #[tactic(auto, unfolding(crate::specs::Header::may_be_there))]
     fn is_allowed(place: usize, byte: u8) -> bool
         requires { place < 32 }
-        ensures { result ≡ may_stand place byte }
+        ensures { result ≡ may_be_there place byte }
     {
         match place {
             0..=7 => byte == INITIAL[place],

@@ -3,7 +3,7 @@ use Rattle.std.proofs.Common.{◌≡◌, ◌∙◌, min, ℕ, ◌+◌, ◌-◌, 
 use Rattle.std.proofs.lemmas.List.{length-drop, length-take-le}
 use Rattle.std.proofs.lemmas.Option.{slice_get_within}
 use Rattle.dvd_capture.specs.declared.form.Form.{Form}
-use Rattle.dvd_capture.proofs.Fetching.{part-append, part-behind}
+use Rattle.dvd_capture.proofs.Fetching.{part-append, part-after}
 use Rattle.dvd_layout.specs.Content.{IsImage, image_from}
 use Rattle.dvd_layout.specs.Place.{image_sectors, total_sectors}
 use Rattle.dvd_layout.specs.Plan.{plan_of}
@@ -41,7 +41,7 @@ part_there a n before part out at size (left, is) =
     let own : length (part ++ []) ≡ n = ap length (append-nil part) ∙ size in
     ap (λ l. take n (drop a l)) is
     ∙ part-append (before ++ (part ++ [])) left a n (omega (arith, length-append before (part ++ []), own))
-    ∙ part-behind before (part ++ []) a n at own
+    ∙ part-after before (part ++ []) a n at own
     ∙ append-nil part
 
 -- Units that are the captured blocks of a plan, and write the image bytes that each holds.
@@ -50,11 +50,11 @@ module _ (layout : Layout) (zones : Zones) (form : Form) (May : ℕ → List ℕ
   -- the blocks before a data block write the bytes before its first image sector, or as many zeros
   length-before : (k : ℕ) (entry : BlockPlan) (bytes : List ℕ) (a : Outcome) → slice_get (plan_of layout zones) k ≡ Some entry → IsImage entry.content
       → IsOutcome (first k (block_units layout zones form May)) bytes a → a.end ≡ Done → length a.out ≡ 2048 * image_from entry.content
-  length-before k entry bytes a stands is_image runs done =
-      let within = slice_get_within (plan_of layout zones) k entry stands in
+  length-before k entry bytes a is_there is_image runs done =
+      let within = slice_get_within (plan_of layout zones) k entry is_there in
       length-first layout zones form May wide k bytes a runs done
       ∙ start-blocks layout zones k (omega arith)
-      ∙ ap (λ n. 2048 * n) (plan_of-in_order layout zones k entry stands is_image)
+      ∙ ap (λ n. 2048 * n) (plan_of-in_order layout zones k entry is_there is_image)
 
   -- In a run whose loop ended without a fault a data block that is whole is processed, and what it writes comes after
   -- the bytes before its first image sector.
@@ -70,8 +70,8 @@ module _ (layout : Layout) (zones : Zones) (form : Form) (May : ℕ → List ℕ
   pub has_unit : (bytes : List ℕ) (a : Outcome) → IsOutcome (block_units layout zones form May) bytes a
       → IsFaultless a.end → (k : ℕ) (entry : BlockPlan) → slice_get (plan_of layout zones) k ≡ Some entry → IsImage entry.content
       → HasBlocks form bytes (k + 1) → HasTurn bytes a k entry
-  has_unit bytes a runs none k entry stands is_image whole =
-      let in_plan = slice_get_within (plan_of layout zones) k entry stands in
+  has_unit bytes a runs none k entry is_there is_image whole =
+      let in_plan = slice_get_within (plan_of layout zones) k entry is_there in
       let units = block_units layout zones form May in
       let (steps, kind, t) = takes_unit units (never_last layout zones form May wide) (blocks_stay units form (λ j l. refl)) (blocks_break units form (λ j l. refl)) refl
       bytes a runs none k in_plan (block_bytes form bytes) (from_block form bytes) (begin_blocks units form (λ j l. refl) bytes (k + 1) whole) in record {
@@ -79,6 +79,6 @@ module _ (layout : Layout) (zones : Zones) (form : Form) (May : ℕ → List ℕ
         kind = kind;
         does = subst (λ j. May j (block_bytes form bytes k) steps kind) t.number t.unit.does;
         before = t.alone.out;
-        size = length-before k entry bytes t.alone stands is_image t.runs t.ends;
+        size = length-before k entry bytes t.alone is_there is_image t.runs t.ends;
         out = t.out;
       }

@@ -92,9 +92,9 @@ captured-received form own whole = record {
 pub recovered_at : (layout : Layout) (zones : Zones) (form : Form) (k : ℕ) (entry : BlockPlan) (own : List ℕ) (steps : List Step) (kind : UnitKind)
     → slice_get (plan_of layout zones) k ≡ Some entry → IsImage entry.content → IsRecovered layout zones form k own steps kind
     → IsImageDone layout k entry (captured_rows form own) (captured_marks form own) steps kind
-recovered_at layout zones form k entry own steps kind stands is_image does =
+recovered_at layout zones form k entry own steps kind is_there is_image does =
     of_image (IsImageDone layout k entry (captured_rows form own) (captured_marks form own)) entry.content is_image steps kind
-    (done_at (plan_of layout zones) (ForImage (IsImageDone layout k)) form k entry stands own steps kind does)
+    (done_at (plan_of layout zones) (ForImage (IsImageDone layout k)) form k entry is_there own steps kind does)
 
 -- Of damage within the bound the block is read, and it is that which was mastered.
 within_is_read : (layout : Layout) (zones : Zones) (form : Form) (cpr : List ℕ) (k : ℕ) (entry : BlockPlan) (image own : List ℕ) (block : List (List ℕ))
@@ -103,20 +103,20 @@ within_is_read : (layout : Layout) (zones : Zones) (form : Form) (cpr : List ℕ
     → captured_part form own ≡ Whole (length own) → IsWithin block (captured_rows form own) (captured_marks form own)
     → (block_cause (captured_rows form own) (captured_marks form own) entry ≡ None)
     × (block_sectors (captured_rows form own) (captured_marks form own) entry ≡ sectors_list (filled_block image))
-within_is_read layout zones form cpr k entry image own block stands is_image cpr_size image_size is_block size within =
+within_is_read layout zones form cpr k entry image own block is_there is_image cpr_size image_size is_block size within =
     let few = few-sectors layout entry.content in
     let made = data_block-made layout entry cpr image is_image cpr_size (omega (arith, image_size, few)) in
     within-read entry (has_two_layers layout.shape) (cpr_in entry.area cpr) (sector (filled_block image)) (frames_of layout entry cpr (filled_block image)) block
-    (captured_rows form own) (captured_marks form own) (has_numbers layout zones k entry stands) made is_block (captured-received form own size) within
+    (captured_rows form own) (captured_marks form own) (has_numbers layout zones k entry is_there) made is_block (captured-received form own size) within
 
 -- the law: of damage within the bound recovery gives back the image sectors of the block
 pub repaired : DamageWithinTheBoundIsRepaired
-repaired layout zones form cpr k entry image own block steps kind stands is_image cpr_size image_size is_block size within does =
+repaired layout zones form cpr k entry image own block steps kind is_there is_image cpr_size image_size is_block size within does =
     let rows = captured_rows form own in
     let marks = captured_marks form own in
     let received = captured-received form own size in
-    let read = within_is_read layout zones form cpr k entry image own block stands is_image cpr_size image_size is_block size within in
-    elim (recovered_at layout zones form k entry own steps kind stands is_image does) [
+    let read = within_is_read layout zones form cpr k entry image own block is_there is_image cpr_size image_size is_block size within in
+    elim (recovered_at layout zones form k entry own steps kind is_there is_image does) [
       | inr refused ↦ let first = refused.first in let none = read.0 in cc
       | inl given ↦
           let sectors : given.sectors ≡ sectors_list (filled_block image) = (read-determined rows marks entry given.sectors received.height received.marks_height given.read).1 ∙ read.1 in (
@@ -136,16 +136,16 @@ RepairsBy Performs =
 
 -- it holds of `deep`
 pub repaired_deep : RepairsBy IsDeepened
-repaired_deep layout zones form cpr k entry image own block steps kind stands is_image cpr_size image_size is_block size within does =
+repaired_deep layout zones form cpr k entry image own block steps kind is_there is_image cpr_size image_size is_block size within does =
     let rows = captured_rows form own in
     let marks = captured_marks form own in
     let received = captured-received form own size in
-    let within_read = within_is_read layout zones form cpr k entry image own block stands is_image cpr_size image_size is_block size within in
+    let within_read = within_is_read layout zones form cpr k entry image own block is_there is_image cpr_size image_size is_block size within in
     let read = no_cause-read rows marks entry received.height received.marks_height within_read.0 in
     let deep = read-deep rows marks entry (block_sectors rows marks entry) received.height received.marks_height read in
     let none : two_pass_cause (answers_of rows marks) ≡ None =
     agrees-no_cause (answers_of rows marks) read.block (length-answers_of rows marks 208 received.height received.marks_height) read.agrees in
-    let done = done_at (plan_of layout zones) (ForImage (IsImageRead layout k)) form k entry stands own steps kind does in
+    let done = done_at (plan_of layout zones) (ForImage (IsImageRead layout k)) form k entry is_there own steps kind does in
     elim (of_image (IsImageRead layout k entry rows marks) entry.content is_image steps kind done) [
       | inr lost ↦ let first = lost.first in let no = deep-no_cause rows marks entry 1 (block_sectors rows marks entry) deep in cc
       | inl given ↦

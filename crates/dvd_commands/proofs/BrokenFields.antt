@@ -135,15 +135,15 @@ module _ (bytes : List ℕ) where
 
   -- such a field is one of the unit's that is wholly in the bytes
   is_bad : (offset : ℕ) → BreaksAmong (run_count bytes) offset → HasBadField bytes offset
-  is_bad offset (inl (is, (stands, breaks))) = (omega (arith, is, stands), inl (is, breaks))
-  is_bad offset (inr (i, below, inl (is, (stands, breaks)))) = (omega (arith, is, stands), inr (i, below, inl (is, breaks)))
-  is_bad offset (inr (i, below, inr (is, (stands, breaks)))) = (omega (arith, is, stands), inr (i, below, inr (is, breaks)))
+  is_bad offset (inl (is, (is_there, breaks))) = (omega (arith, is, is_there), inl (is, breaks))
+  is_bad offset (inr (i, below, inl (is, (is_there, breaks)))) = (omega (arith, is, is_there), inr (i, below, inl (is, breaks)))
+  is_bad offset (inr (i, below, inr (is, (is_there, breaks)))) = (omega (arith, is, is_there), inr (i, below, inr (is, breaks)))
 
   -- and such a field of the unit is one of these
   bad_is : (offset : ℕ) → HasBadField bytes offset → BreaksAmong (run_count bytes) offset
-  bad_is offset (stands, inl (is, breaks)) = inl (is, (omega (arith, is, stands), breaks))
-  bad_is offset (stands, inr (i, below, inl (is, breaks))) = inr (i, below, inl (is, (omega (arith, is, stands), breaks)))
-  bad_is offset (stands, inr (i, below, inr (is, breaks))) = inr (i, below, inr (is, (omega (arith, is, stands), breaks)))
+  bad_is offset (is_there, inl (is, breaks)) = inl (is, (omega (arith, is, is_there), breaks))
+  bad_is offset (is_there, inr (i, below, inl (is, breaks))) = inr (i, below, inl (is, (omega (arith, is, is_there), breaks)))
+  bad_is offset (is_there, inr (i, below, inr (is, breaks))) = inr (i, below, inr (is, (omega (arith, is, is_there), breaks)))
 
   -- so the first such field of the unit is found
   found_least : IsLeast (HasBadField bytes) (broken_at bytes)

@@ -12,7 +12,7 @@ use Rattle.dvd_loop.specs.Machine.{Step, Units}
 use Rattle.dvd_loop.specs.Machine.Prefix.{Whole, Broken}
 use Rattle.dvd_loop.specs.declared.ends.UnitKind.{UnitKind}
 use Rattle.dvd_commands.specs.Captured.{HasBlocks, block_bytes, block_start, captured_part, from_block}
-use Rattle.dvd_commands.proofs.CapturedParts.{begins_somehow, broken_stays, front_whole, whole_size, whole_stays}
+use Rattle.dvd_commands.proofs.CapturedParts.{begins_somehow, broken_stays, prefix_whole, whole_size, whole_stays}
 use Rattle.dvd_loop.proofs.Apart.{BeginWith}
 
 -- block 0 begins at the front
@@ -42,7 +42,7 @@ from-next form bytes k =
 -- a block that is whole in the stream is so by its own bytes
 pub block-whole : (form : Form) (bytes : List ℕ) (n : ℕ) → HasBlocks form bytes n → (k : ℕ) → k < n
     → captured_part form (block_bytes form bytes k) ≡ Whole (length (block_bytes form bytes k))
-block-whole form bytes n has k lt = (front_whole form (from_block form bytes k) (has k lt)).1
+block-whole form bytes n has k lt = (prefix_whole form (from_block form bytes k) (has k lt)).1
 
 -- Captured blocks as the units of a command: bytes that have n blocks begin with n whole units.
 pub begin_blocks : (units : Units) (form : Form) → ((k : ℕ) (own : List ℕ) → units.begins k own ≡ captured_part form own)
@@ -88,32 +88,32 @@ pub blocks_total : (units : Units) (form : Form) → ((k : ℕ) (own : List ℕ)
     → AreTotal units
 blocks_total units form begins may closing = record {
   begins = λ k bytes lt. elim (begins_somehow form bytes) [
-    | inl (own, left, front, whole) ↦ inl (own, left, front, begins k own ∙ whole)
+    | inl (own, left, prefix, whole) ↦ inl (own, left, prefix, begins k own ∙ whole)
     | inr (inl cut) ↦ inr (inl (begins k bytes ∙ cut))
-    | inr (inr (own, left, at, front, broken)) ↦ inr (inr (own, left, at, front, begins k own ∙ broken))
+    | inr (inr (own, left, at, prefix, broken)) ↦ inr (inr (own, left, at, prefix, begins k own ∙ broken))
   ];
   does = λ before own lt whole. may before own lt (sym (begins (length before) own) ∙ whole);
   closes = closing;
 }
 
 -- IN PLACE. So many blocks were passed, and these bytes are left.
-pub record IsPast (form : Form) (all : List ℕ) (k : ℕ) (front left : List ℕ) : Type 0 where
-  pub parts : all ≡ front ++ left
-  pub at : length front ≡ block_start form all k
+pub record IsPast (form : Form) (all : List ℕ) (k : ℕ) (prefix left : List ℕ) : Type 0 where
+  pub parts : all ≡ prefix ++ left
+  pub at : length prefix ≡ block_start form all k
   pub has : HasBlocks form all k
 
 -- none was passed yet
 pub past_none : (form : Form) (all : List ℕ) → IsPast form all 0 [] all
 past_none form all = record { parts = refl; at = sym (start-zero form all); has = λ j lt. absurd (omega arith) }
 
-module _ (form : Form) (all : List ℕ) (k : ℕ) (front left : List ℕ) (past : IsPast form all k front left) where
+module _ (form : Form) (all : List ℕ) (k : ℕ) (prefix left : List ℕ) (past : IsPast form all k prefix left) where
   -- the bytes before block k
-  pub front-is : take (block_start form all k) all ≡ front
-  front-is = ap (λ n. take n all) (sym past.at) ∙ ap (take (length front)) past.parts ∙ take-append_seam front left
+  pub prefix-is : take (block_start form all k) all ≡ prefix
+  prefix-is = ap (λ n. take n all) (sym past.at) ∙ ap (take (length prefix)) past.parts ∙ take-append_seam prefix left
 
   -- and those from it on
   pub from-is : from_block form all k ≡ left
-  from-is = ap (λ n. drop n all) (sym past.at) ∙ ap (drop (length front)) past.parts ∙ drop-append_seam front left
+  from-is = ap (λ n. drop n all) (sym past.at) ∙ ap (drop (length prefix)) past.parts ∙ drop-append_seam prefix left
 
   module _ (own more : List ℕ) (is : left ≡ own ++ more) (whole : captured_part form own ≡ Whole (length own)) where
     -- its size is that of the unit
@@ -137,9 +137,9 @@ module _ (form : Form) (all : List ℕ) (k : ℕ) (front left : List ℕ) (past 
     ]
 
     -- and it was passed
-    pub past_next : IsPast form all (suc k) (front ++ own) more
+    pub past_next : IsPast form all (suc k) (prefix ++ own) more
     past_next = record {
-      parts = past.parts ∙ ap (λ l. front ++ l) is ∙ sym (append_assoc front own more);
-      at = length-append front own ∙ omega (arith, past.at, size-is, start-suc form all k);
+      parts = past.parts ∙ ap (λ l. prefix ++ l) is ∙ sym (append_assoc prefix own more);
+      at = length-append prefix own ∙ omega (arith, past.at, size-is, start-suc form all k);
       has = has-one;
     }

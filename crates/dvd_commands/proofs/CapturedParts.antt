@@ -66,31 +66,31 @@ module _ (own more : List ℕ) where
 
   -- a field that breaks a rule does so whatever follows
   bad_on : (offset : ℕ) → HasBadField own offset → HasBadField (own ++ more) offset
-  bad_on offset (stands, inl (is, number)) =
-      (omega (arith, stands, length-append own more), inl (is, subst (λ n. 18_928 < n) (sym (number_same (omega (arith, is, stands)))) number))
-  bad_on offset (stands, inr (i, below, inl (is, start))) = (
-    omega (arith, stands, length-append own more),
-    inr (i, subst (λ n. i < n) (sym (number_same (omega (arith, is, stands)))) below, inl (is, start_on i (omega (arith, is, stands)) start)),
+  bad_on offset (is_there, inl (is, number)) =
+      (omega (arith, is_there, length-append own more), inl (is, subst (λ n. 18_928 < n) (sym (number_same (omega (arith, is, is_there)))) number))
+  bad_on offset (is_there, inr (i, below, inl (is, start))) = (
+    omega (arith, is_there, length-append own more),
+    inr (i, subst (λ n. i < n) (sym (number_same (omega (arith, is, is_there)))) below, inl (is, start_on i (omega (arith, is, is_there)) start)),
   )
-  bad_on offset (stands, inr (i, below, inr (is, long))) = (
-    omega (arith, stands, length-append own more),
-    inr (i, subst (λ n. i < n) (sym (number_same (omega (arith, is, stands)))) below, inr (is, long_on i (omega (arith, is, stands)) long)),
+  bad_on offset (is_there, inr (i, below, inr (is, long))) = (
+    omega (arith, is_there, length-append own more),
+    inr (i, subst (λ n. i < n) (sym (number_same (omega (arith, is, is_there)))) below, inr (is, long_on i (omega (arith, is, is_there)) long)),
   )
 
   -- and one that is wholly in the first bytes broke it before
   bad_back : (offset : ℕ) → offset + 2 ≤ length own → HasBadField (own ++ more) offset → HasBadField own offset
-  bad_back offset within (stands, inl (is, number)) = (within, inl (is, subst (λ n. 18_928 < n) (number_same (omega (arith, is, within))) number))
-  bad_back offset within (stands, inr (i, below, inl (is, start))) =
+  bad_back offset within (is_there, inl (is, number)) = (within, inl (is, subst (λ n. 18_928 < n) (number_same (omega (arith, is, within))) number))
+  bad_back offset within (is_there, inr (i, below, inl (is, start))) =
       (within, inr (i, subst (λ n. i < n) (number_same (omega (arith, is, within))) below, inl (is, start_back i (omega (arith, is, within)) start)))
-  bad_back offset within (stands, inr (i, below, inr (is, long))) =
+  bad_back offset within (is_there, inr (i, below, inr (is, long))) =
       (within, inr (i, subst (λ n. i < n) (number_same (omega (arith, is, within))) below, inr (is, long_back i (omega (arith, is, within)) long)))
 
   -- the fields of a unit come before its end
   inside : listed_size own ≤ length own → (offset : ℕ) → HasBadField (own ++ more) offset → offset + 2 ≤ length own
-  inside whole offset (stands, inl (is, number)) = omega (arith, is, whole)
-  inside whole offset (stands, inr (i, below, inl (is, start))) =
+  inside whole offset (is_there, inl (is, number)) = omega (arith, is, whole)
+  inside whole offset (is_there, inr (i, below, inl (is, start))) =
       let same = number_same (omega (arith, whole)) in omega (arith, is, whole, below, same)
-  inside whole offset (stands, inr (i, below, inr (is, long))) =
+  inside whole offset (is_there, inr (i, below, inr (is, long))) =
       let same = number_same (omega (arith, whole)) in omega (arith, is, whole, below, same)
 
   -- a whole unit that breaks no rule breaks none whatever follows
@@ -107,7 +107,7 @@ module _ (own more : List ℕ) where
     bad = bad_on at broken.bad;
     first = λ offset bad. elim (cases_lt offset at) [
       | inr le ↦ le
-      | inl lt ↦ absurd (let stands = broken.bad.0 in let le = broken.first offset (bad_back offset (omega (arith, lt, stands)) bad) in omega (arith, lt, le))
+      | inl lt ↦ absurd (let is_there = broken.bad.0 in let le = broken.first offset (bad_back offset (omega (arith, lt, is_there)) bad) in omega (arith, lt, le))
     ];
   }
 
@@ -207,23 +207,23 @@ broken_stays Listed at own more broken = elim (broken_or_not own) [
 ]
 
 -- A UNIT in front of bytes that begin with a whole block.
-pub front_whole : (form : Form) (bytes : List ℕ) → captured_part form bytes ≡ Whole (unit_size form bytes)
+pub prefix_whole : (form : Form) (bytes : List ℕ) → captured_part form bytes ≡ Whole (unit_size form bytes)
     → (length (take (unit_size form bytes) bytes) ≡ unit_size form bytes)
     × (captured_part form (take (unit_size form bytes) bytes) ≡ Whole (length (take (unit_size form bytes) bytes)))
-front_whole form bytes whole =
+prefix_whole form bytes whole =
     let is = whole_size form bytes (unit_size form bytes) whole in
     let own = take (unit_size form bytes) bytes in
     let more = drop (unit_size form bytes) bytes in
     let size : length own ≡ unit_size form bytes = length-take-le (unit_size form bytes) bytes is.1 in
     let all : own ++ more ≡ bytes = take-append-drop (unit_size form bytes) bytes in
     let valid : BreaksNoRule form own = valid_back form own more (subst (BreaksNoRule form) (sym all) is.2) in
-    let same : unit_size form own ≡ length own = front_size form own more (subst (λ l. unit_size form l ≡ length own) (sym all) (sym size)) in
+    let same : unit_size form own ≡ length own = prefix_size form own more (subst (λ l. unit_size form l ≡ length own) (sym all) (sym size)) in
     (size, size_whole form own (omega (arith, same)) valid ∙ ap Whole same)
   where
-    front_size : (form : Form) (own more : List ℕ) → unit_size form (own ++ more) ≡ length own → unit_size form own ≡ length own
-    front_size Plain own more is = is
-    front_size Marked own more is = is
-    front_size Listed own more is = let same = number_same own more (omega (arith, is)) in omega (arith, is, same)
+    prefix_size : (form : Form) (own more : List ℕ) → unit_size form (own ++ more) ≡ length own → unit_size form own ≡ length own
+    prefix_size Plain own more is = is
+    prefix_size Marked own more is = is
+    prefix_size Listed own more is = let same = number_same own more (omega (arith, is)) in omega (arith, is, same)
 
 -- what bytes begin with: a whole block, a part of one, or one that breaks a rule
 pub begins_somehow : (form : Form) (bytes : List ℕ)
@@ -252,6 +252,6 @@ begins_somehow form bytes = by_valid form bytes (valid_or_not form bytes)
             take (unit_size form bytes) bytes,
             drop (unit_size form bytes) bytes,
             sym (take-append-drop (unit_size form bytes) bytes),
-            (front_whole form bytes (size_whole form bytes le valid)).1,
+            (prefix_whole form bytes (size_whole form bytes le valid)).1,
           )
     ]

@@ -48,7 +48,7 @@ module _ (form : Form) (k : ℕ) (old new : Seen) where
     own = ends.bytes;
     left = [];
     reads = ends.taken;
-    told = none_left new.bytes ends.at_end;
+    known = none_left new.bytes ends.at_end;
     ends = subst (λ part. EndsWithin part k (length ends.bytes) [] (Short k count))
         (sym (size_cut form ends.bytes (subst (λ n. n < unit_size form ends.bytes) (sym ends.size) ends.fewer) ends.valid))
         (inl (ap (Short k) (sym ends.size), refl));
@@ -60,7 +60,7 @@ module _ (form : Form) (k : ℕ) (old new : Seen) where
     own = failed.bytes;
     left = (left_of new.bytes).0;
     reads = failed.taken;
-    told = (left_of new.bytes).1;
+    known = (left_of new.bytes).1;
     ends = captured_failed form failed.bytes (left_of new.bytes).0 k failed.fewer;
   }
 
@@ -70,7 +70,7 @@ module _ (form : Form) (k : ℕ) (old new : Seen) where
     own = breaks.bytes;
     left = (left_of new.bytes).0;
     reads = breaks.taken;
-    told = (left_of new.bytes).1;
+    known = (left_of new.bytes).1;
     ends = subst (λ part. EndsWithin part k (length breaks.bytes) (left_of new.bytes).0 (BadMarks k at))
         (sym (captured_broken form breaks.bytes at breaks.listed breaks.broken)) (inl refl);
   }
@@ -84,7 +84,7 @@ module _ (units : Units) (form : Form) (begins : (k : ℕ) (own : List ℕ) → 
       → IsProcessed units before ready (streams source output report) (streams new_source output report) answer
   captured_short answer end is short causes =
       subst (IsProcessed units before ready (streams source output report) (streams new_source output report)) (sym is)
-      (within_unit units before ready source new_source output report end short.own short.left short.reads short.told
+      (within_unit units before ready source new_source output report end short.own short.left short.reads short.known
       (subst (λ part. EndsWithin part (length before) (length short.own) short.left end) (sym (begins (length before) short.own))
       (subst (λ j. EndsWithin (captured_part form short.own) j (length short.own) short.left end) (sym number) short.ends)) causes)
 
@@ -101,5 +101,5 @@ module _ (units : Units) (form : Form) (begins : (k : ℕ) (own : List ℕ) → 
         whole = begins (length before) fetched.bytes ∙ captured_whole form fetched.bytes fetched.size fetched.valid;
         does = subst (λ j. units.does j before fetched.bytes done.steps done.kind) (sym number) done.may;
       })
-      (record { reads = fetched.taken; writes = Appends-none output.bytes; tells = Appends-none report.bytes })
+      (record { reads = fetched.taken; writes = Appends-none output.bytes; reports = Appends-none report.bytes })
       causes next answer done.done done.is done.causes

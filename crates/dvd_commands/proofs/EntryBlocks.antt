@@ -44,7 +44,7 @@ module _ (Performs : List Step → UnitKind → Type 0) where
   of_image Control is steps kind does = absurd is
 
 module _ (entries : List BlockPlan) (Performs : BlockPlan → List (List ℕ) → List (List Bool) → List Step → UnitKind → Type 0) (form : Form) (k : ℕ) (entry : BlockPlan)
-    (stands : slice_get entries k ≡ Some entry) (own : List ℕ) where
+    (is_there : slice_get entries k ≡ Some entry) (own : List ℕ) where
   -- what is done for the rows and marks of captured bytes is done for block k
   pub done_by_entry : (rows : List (List ℕ)) (marks : List (List Bool)) → rows ≡ captured_rows form own → marks ≡ captured_marks form own
       → (old new : Streams) (answer : Result UnitKind LoopEnd) → AreDone (Performs entry rows marks) old new answer
@@ -53,7 +53,7 @@ module _ (entries : List BlockPlan) (Performs : BlockPlan → List (List ℕ) �
       done_as (Performs entry rows marks) (IsDoneByEntry entries Performs form k own)
       (λ steps kind does. record {
         entry = entry;
-        stands = stands;
+        is_there = is_there;
         does = subst (λ m. Performs entry (captured_rows form own) m steps kind) marks_are (subst (λ r. Performs entry r marks steps kind) rows_are does);
       })
 
@@ -61,7 +61,7 @@ module _ (entries : List BlockPlan) (Performs : BlockPlan → List (List ℕ) �
   pub done_at : (steps : List Step) (kind : UnitKind) → IsDoneByEntry entries Performs form k own steps kind
       → Performs entry (captured_rows form own) (captured_marks form own) steps kind
   done_at steps kind does =
-      subst (λ e. Performs e (captured_rows form own) (captured_marks form own) steps kind) (one_entry entries k does.entry entry does.stands stands) does.does
+      subst (λ e. Performs e (captured_rows form own) (captured_marks form own) steps kind) (one_entry entries k does.entry entry does.is_there is_there) does.does
 
 -- A captured block has 208 rows, with marks for each.
 pub length-captured_rows : (form : Form) (own : List ℕ) → length (captured_rows form own) ≡ 208

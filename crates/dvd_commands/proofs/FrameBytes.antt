@@ -30,9 +30,9 @@ bytes-replicate n b is = record { size = length-replicate {A = ℕ} n b; bytes =
 
 -- bytes and others after them are as many as both together
 pub bytes-append : (m n k : ℕ) (xs ys : List ℕ) → m + n ≡ k → HasBytes m xs → HasBytes n ys → HasBytes k (xs ++ ys)
-bytes-append m n k xs ys is front back = record {
-  size = omega (arith, length-append xs ys, front.size, back.size);
-  bytes = All-append IsByte xs ys front.bytes back.bytes;
+bytes-append m n k xs ys is earlier back = record {
+  size = omega (arith, length-append xs ys, earlier.size, back.size);
+  bytes = All-append IsByte xs ys earlier.bytes back.bytes;
 }
 
 -- a part of some bytes is as many as it takes

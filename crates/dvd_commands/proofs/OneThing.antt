@@ -10,7 +10,7 @@ use Rattle.dvd_layout.specs.declared.layout.Layout.{Layout}
 use Rattle.dvd_decoding.specs.declared.cause.Cause.{Cause}
 use Rattle.dvd_commands.proofs.EntryBlocks.{done_at, length-captured_marks, length-captured_rows}
 use Rattle.dvd_loop.specs.Machine.{Step}
-use Rattle.dvd_loop.specs.Machine.Step.{Write, Tell}
+use Rattle.dvd_loop.specs.Machine.Step.{Write, Report}
 use Rattle.dvd_loop.specs.declared.ends.UnitKind.{UnitKind}
 use Rattle.dvd_decoding.specs.Salvage.{block_out, saved_in}
 use Rattle.dvd_report.specs.Lines.{damage_line}
@@ -45,7 +45,7 @@ pub entry_is_one : (entries : List BlockPlan) (Performs : BlockPlan → List (Li
     → (form : Form) (k : ℕ) (own : List ℕ) → MayOne (IsDoneByEntry entries Performs form k own)
 entry_is_one entries Performs one form k own steps others kind other p q =
     one p.entry (captured_rows form own) (captured_marks form own) (length-captured_rows form own) (length-captured_marks form own) steps others kind other
-    p.does (done_at entries Performs form k p.entry p.stands own others other q)
+    p.does (done_at entries Performs form k p.entry p.is_there own others other q)
 
 -- so it is where that is done for image, and any other block is passed over
 pub image_is_one : (entries : List BlockPlan) (Performs : BlockPlan → List (List ℕ) → List (List Bool) → List Step → UnitKind → Type 0)
@@ -60,7 +60,7 @@ pub refused_is_one : (has : Option Cause) (layout : Layout) (k : ℕ) (entry : B
     → MayOne (IsRefused has layout k entry rows marks)
 refused_is_one has layout k entry rows marks steps others kind other p q =
     let cause : p.cause ≡ q.cause = (let is : Some p.cause ≡ Some q.cause = sym p.first ∙ q.first in cc) in (
-      p.tells
-          ∙ ap (λ c. Tell (damage_line k entry c (saved_in rows marks entry)) ∷ Write (sectors_out (image_sectors layout entry.content) (block_out rows marks entry)) ∷ []) cause ∙ sym q.tells,
+      p.reports
+          ∙ ap (λ c. Report (damage_line k entry c (saved_in rows marks entry)) ∷ Write (sectors_out (image_sectors layout entry.content) (block_out rows marks entry)) ∷ []) cause ∙ sym q.reports,
       p.bad ∙ sym q.bad,
     )

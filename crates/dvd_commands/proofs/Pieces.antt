@@ -4,7 +4,7 @@ use Rattle.std.specs.List.{flat_map, range_with_len}
 use Rattle.std.proofs.Math.Nat.{mul-suc, mul-zero}
 use Rattle.std.proofs.Math.Seq.{take-add}
 use Rattle.std.proofs.lemmas.Bool.{cases_lt}
-use Rattle.dvd_capture.proofs.Fetching.{part-append, part-behind}
+use Rattle.dvd_capture.proofs.Fetching.{part-append, part-after}
 use Rattle.dvd_loop.specs.Laws.{IsPrefixOf}
 use Rattle.dvd_loop.proofs.Over.{start, start-le, start-suc, start-zero}
 
@@ -42,31 +42,31 @@ piece-at f size (suc n) k each lt =
           part-append before (f n) (start size k) (size k) (omega (arith, all, further, start-suc size k)) ∙ piece-at f size n k sizes below
       | inr not ↦
           let is : n ≡ k = omega arith in
-          subst (λ i. take (size i) (drop (start size i) (before ++ f n)) ≡ f i) is (part-behind before (f n) (start size n) (size n) all (each n (omega arith)))
+          subst (λ i. take (size i) (drop (start size i) (before ++ f n)) ≡ f i) is (part-after before (f n) (start size n) (size n) all (each n (omega arith)))
     ]
 
 -- the pieces that bytes consist of are the front of them
-pub pieces-front : (size : ℕ → ℕ) (all : List ℕ) (n : ℕ)
+pub pieces-prefix : (size : ℕ → ℕ) (all : List ℕ) (n : ℕ)
     → flat_map (λ k. take (size k) (drop (start size k) all)) (range_with_len 0 n) ≡ take (start size n) all
-pieces-front size all zero = ap (λ m. take m all) (sym (start-zero size))
-pieces-front size all (suc n) =
+pieces-prefix size all zero = ap (λ m. take m all) (sym (start-zero size))
+pieces-prefix size all (suc n) =
     pieces-more (λ k. take (size k) (drop (start size k) all)) 0 n n (omega arith)
-    ∙ ap (λ l. l ++ take (size n) (drop (start size n) all)) (pieces-front size all n)
+    ∙ ap (λ l. l ++ take (size n) (drop (start size n) all)) (pieces-prefix size all n)
     ∙ sym (take-add (start size n) (size n) all)
     ∙ ap (λ m. take m all) (sym (start-suc size n))
 
 -- the first elements of a list are the front of those of a longer one
-take-front : (n : ℕ) (xs ys : List ℕ) → IsPrefixOf (take n xs) (take n (xs ++ ys))
-take-front zero xs ys = ([], refl)
-take-front (suc n) [] ys = (take (suc n) ys, refl)
-take-front (suc n) (x ∷ xs) ys = let (left, is) = take-front n xs ys in (left, ap (λ l. x ∷ l) is)
+take-prefix : (n : ℕ) (xs ys : List ℕ) → IsPrefixOf (take n xs) (take n (xs ++ ys))
+take-prefix zero xs ys = ([], refl)
+take-prefix (suc n) [] ys = (take (suc n) ys, refl)
+take-prefix (suc n) (x ∷ xs) ys = let (left, is) = take-prefix n xs ys in (left, ap (λ l. x ∷ l) is)
 
 -- and so is a part further on
 part-longer : (n p : ℕ) (xs ys : List ℕ) → IsPrefixOf (take n (drop p xs)) (take n (drop p (xs ++ ys)))
-part-longer n zero xs ys = take-front n xs ys
-part-longer n (suc p) [] ys = take-front n [] (drop (suc p) ys)
+part-longer n zero xs ys = take-prefix n xs ys
+part-longer n (suc p) [] ys = take-prefix n [] (drop (suc p) ys)
 part-longer n (suc p) (x ∷ xs) ys = part-longer n p xs ys
 
 -- a part of the front of a list is the front of the part
-pub front-part : (n p : ℕ) (xs all : List ℕ) → IsPrefixOf xs all → IsPrefixOf (take n (drop p xs)) (take n (drop p all))
-front-part n p xs all (left, is) = subst (λ l. IsPrefixOf (take n (drop p xs)) (take n (drop p l))) (sym is) (part-longer n p xs left)
+pub prefix-part : (n p : ℕ) (xs all : List ℕ) → IsPrefixOf xs all → IsPrefixOf (take n (drop p xs)) (take n (drop p all))
+prefix-part n p xs all (left, is) = subst (λ l. IsPrefixOf (take n (drop p xs)) (take n (drop p l))) (sym is) (part-longer n p xs left)

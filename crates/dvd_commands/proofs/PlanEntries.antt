@@ -10,7 +10,7 @@ use Rattle.dvd_layout.proofs.Ranges.{lead_in_blocks-numbers, plan_of-numbers}
 
 -- each entry of a list has numbers of 24 bits, where all of them have
 numbers_in : (entries : List BlockPlan) → All HasNumbers entries → (k : ℕ) (entry : BlockPlan) → slice_get entries k ≡ Some entry → HasNumbers entry
-numbers_in entries are k entry stands = subst HasNumbers (get_or_from_slice_get entries k entry entry stands) (are k entry (slice_get_within entries k entry stands))
+numbers_in entries are k entry is_there = subst HasNumbers (get_or_from_slice_get entries k entry entry is_there) (are k entry (slice_get_within entries k entry is_there))
 
 -- the numbers of an entry of a plan have 24 bits
 pub has_numbers : (layout : Layout) (zones : Zones) (k : ℕ) (entry : BlockPlan) → slice_get (plan_of layout zones) k ≡ Some entry → HasNumbers entry
@@ -27,6 +27,6 @@ one_entry plan k a b first second = sym (get_or_from_slice_get plan k a a first)
 -- a place of a plan has an entry
 pub some_entry : (entries : List BlockPlan) (k : ℕ) → k < length entries → (entry : BlockPlan) × (slice_get entries k ≡ Some entry)
 some_entry entries k within = elim (slice_get_cases entries k).1 [
-  | inl (entry, below, stands, read) ↦ (entry, stands)
+  | inl (entry, below, is_there, read) ↦ (entry, is_there)
   | inr (past, none) ↦ absurd (omega arith)
 ]

@@ -35,7 +35,7 @@ use Rattle.dvd_deep.specs.Reading.{deep_cause}
 use Rattle.dvd_decoding.specs.Reading.{block_cause}
 use Rattle.dvd_commands.specs.Captured.{IfImage, IsDoneByEntry, IsPassedOver, captured_units}
 use Rattle.dvd_commands.specs.Master.{bytes_of_block, image_bytes}
-use Rattle.dvd_commands.specs.Deep.{IsDeepened, IsImageRead, round_told}
+use Rattle.dvd_commands.specs.Deep.{IsDeepened, IsImageRead, round_report}
 use Rattle.dvd_commands.specs.Recover.{IsImageDone, IsRecovered, IsRefused}
 use Rattle.dvd_commands.specs.Inner.Performing.{sectors_out}
 use Rattle.dvd_commands.proofs.EntryBlocks.{length-captured_marks, length-captured_rows}
@@ -49,10 +49,10 @@ use Rattle.dvd_commands.proofs.Written.{length-written}
 length-frame_of : (block : List (List ℕ)) (f : ℕ) → IsProduct block → f < 16 → length (frame_of block f) ≡ 2064
 unfolding frame_of
 length-frame_of block f is below =
-    length-pieces (λ q. take 172 (line block (12 * f + q))) (λ q. 172) 12 front ∙ start-same 172 12
+    length-pieces (λ q. take 172 (line block (12 * f + q))) (λ q. 172) 12 prefix_size ∙ start-same 172 12
   where
-    front : (q : ℕ) → q < 12 → length (take 172 (line block (12 * f + q))) ≡ 172
-    front q within =
+    prefix_size : (q : ℕ) → q < 12 → length (take 172 (line block (12 * f + q))) ≡ 172
+    prefix_size q within =
         let width : length (line block (12 * f + q)) ≡ 182 = (is.rows (12 * f + q) [] (omega (arith, is.height))).size in
         length-take-le 172 (line block (12 * f + q)) (omega arith)
 
@@ -89,9 +89,9 @@ abbrev pub IsWide : ℕ → List Step → UnitKind → Type 0
 IsWide count steps kind = (length (written steps) ≡ count) × (kind ≢ Last)
 
 -- what the line of a round leaves to be written
-written-behind : (cause : Option Cause) (k : ℕ) (entry : BlockPlan) (round : ℕ) (bytes : List ℕ) → written (round_told cause k entry round ++ Write bytes ∷ []) ≡ bytes ++ []
-written-behind None k entry round bytes = refl
-written-behind (Some cause) k entry round bytes = refl
+written-after : (cause : Option Cause) (k : ℕ) (entry : BlockPlan) (round : ℕ) (bytes : List ℕ) → written (round_report cause k entry round ++ Write bytes ∷ []) ≡ bytes ++ []
+written-after None k entry round bytes = refl
+written-after (Some cause) k entry round bytes = refl
 
 -- for a block without image sectors none is written
 passed-wide : {count : ℕ} {steps : List Step} {kind : UnitKind} → count ≡ 0 → IsPassedOver steps kind → IsWide count steps kind
@@ -114,7 +114,7 @@ module _ (layout : Layout) (k : ℕ) (entry : BlockPlan) (rows : List (List ℕ)
       let saved = sectors_out count (block_out rows marks entry) in
       let widths = (sixteen-sectors rows marks size marks_size entry).1 in
       let few = few-sectors layout entry.content in (
-        ap (λ s. length (written s)) refused.tells ∙ ap length (append-nil saved)
+        ap (λ s. length (written s)) refused.reports ∙ ap length (append-nil saved)
             ∙ length-out (block_out rows marks entry) count (λ f below. widths f (omega arith)),
         λ last. let no : Bad ≡ Last = sym refused.bad ∙ last in cc,
       )
@@ -135,7 +135,7 @@ module _ (layout : Layout) (k : ℕ) (entry : BlockPlan) (rows : List (List ℕ)
       let count = image_sectors layout entry.content in
       let sectors = sectors_out count given.sectors in (
         ap (λ s. length (written s)) given.writes
-            ∙ ap length (written-behind (two_pass_cause (answers_of rows marks)) k entry given.round sectors ∙ append-nil sectors)
+            ∙ ap length (written-after (two_pass_cause (answers_of rows marks)) k entry given.round sectors ∙ append-nil sectors)
             ∙ ap (λ l. length (sectors_out count l)) given.read.main
             ∙ length-sectors_out given.read.block entry count (found_is_product rows marks given.read.block given.read.gives) (few-sectors layout entry.content),
         λ last. let no : Good ≡ Last = sym given.good ∙ last in cc,
@@ -151,7 +151,7 @@ entry-wide : (layout : Layout) (zones : Zones) (form : Form) (k : ℕ) (own : Li
 entry-wide layout zones form k own steps kind Performs wide r =
     let rows = captured_rows form own in
     let marks = captured_marks form own in
-    subst (λ n. IsWide n steps kind) (sym (size_is layout zones k r.entry r.stands))
+    subst (λ n. IsWide n steps kind) (sym (size_is layout zones k r.entry r.is_there))
     (if_image-wide (Performs r.entry rows marks) layout r.entry.content r.entry.content steps kind
     (wide r.entry rows marks (length-captured_rows form own) (length-captured_marks form own)) refl r.does)
 

@@ -7,9 +7,9 @@ use Rattle.coding.specs.Product.{line}
 use Rattle.dvd_commands.specs.Inner.Performing.{sectors_out}
 
 -- fewer sectors are the front of more
-pub sectors_front : (sectors : List (List ℕ)) (f more : ℕ)
+pub sectors_prefix : (sectors : List (List ℕ)) (f more : ℕ)
     → sectors_out f sectors ++ flat_map (λ sector. sector) (take more (drop f sectors)) ≡ sectors_out (f + more) sectors
-sectors_front sectors f more =
+sectors_prefix sectors f more =
     sym (flat_map-append (λ (sector : List ℕ). sector) (take f sectors) (take more (drop f sectors))) ∙ ap (flat_map (λ (sector : List ℕ). sector)) (sym (take-add f more sectors))
 
 -- one sector more
@@ -21,4 +21,4 @@ one_sector (sector ∷ sectors) (suc f) = one_sector sectors f
 
 -- and so f + 1 sectors are f sectors and the one after them
 pub sectors_more : (sectors : List (List ℕ)) (f : ℕ) → sectors_out f sectors ++ line sectors f ≡ sectors_out (f + 1) sectors
-sectors_more sectors f = ap (λ l. sectors_out f sectors ++ l) (sym (one_sector sectors f)) ∙ sectors_front sectors f 1
+sectors_more sectors f = ap (λ l. sectors_out f sectors ++ l) (sym (one_sector sectors f)) ∙ sectors_prefix sectors f 1

@@ -9,7 +9,7 @@ use Rattle.dvd_layout.specs.declared.entry.Content.TheVariants.{Image}
 use Rattle.dvd_layout.specs.declared.layout.Layout.{Layout}
 use Rattle.dvd_decoding.specs.declared.cause.Cause.{Cause}
 use Rattle.dvd_loop.specs.Machine.{Step}
-use Rattle.dvd_loop.specs.Machine.Step.{Write, Tell}
+use Rattle.dvd_loop.specs.Machine.Step.{Write, Report}
 use Rattle.dvd_loop.specs.declared.ends.UnitKind.{UnitKind}
 use Rattle.dvd_decoding.specs.Salvage.{block_out, saved_in}
 use Rattle.dvd_report.specs.Lines.{damage_line}
@@ -45,7 +45,7 @@ pub entry_some : (entries : List BlockPlan) (Performs : BlockPlan → List (List
 entry_some entries Performs some form k own within =
     let at = some_entry entries k within in
     let done = some at.0 (captured_rows form own) (captured_marks form own) (length-captured_rows form own) (length-captured_marks form own) in
-    (done.0, done.1, record { entry = at.0; stands = at.1; does = done.2 })
+    (done.0, done.1, record { entry = at.0; is_there = at.1; does = done.2 })
 
 -- so it may where that is for image, and any other block is passed over
 pub image_some : (entries : List BlockPlan) (Performs : BlockPlan → List (List ℕ) → List (List Bool) → List Step → UnitKind → Type 0)
@@ -59,9 +59,9 @@ image_some entries Performs some =
 pub refused_some : (has : Option Cause) (cause : Cause) → has ≡ Some cause → (layout : Layout) (k : ℕ) (entry : BlockPlan) (rows : List (List ℕ)) (marks : List (List Bool))
     → (steps : List Step) × (kind : UnitKind) × IsRefused has layout k entry rows marks steps kind
 refused_some has cause first layout k entry rows marks = (
-  Tell (damage_line k entry cause (saved_in rows marks entry)) ∷ Write (sectors_out (image_sectors layout entry.content) (block_out rows marks entry)) ∷ [],
+  Report (damage_line k entry cause (saved_in rows marks entry)) ∷ Write (sectors_out (image_sectors layout entry.content) (block_out rows marks entry)) ∷ [],
   Bad,
-  record { cause = cause; first = first; tells = refl; bad = refl },
+  record { cause = cause; first = first; reports = refl; bad = refl },
 )
 
 -- something may be done for each of so many units of given sizes

@@ -2,12 +2,12 @@
 use Rattle.std.proofs.Common.{◌≡◌, ◌≢◌, ◌∙◌, inl, inr, ℕ, zero, suc, ◌+◌, List, [], ◌∷◌, ◌++◌, length, length-append, ap, sym, subst, add-one, arith}
 use Rattle.dvd_loop.specs.Laws.{IsFaultless, IsOver}
 use Rattle.dvd_loop.specs.Machine.{Performs, EndsAfterLast, Continues, ContinuesAfter, IsOutcome, IsUnit, IsEndedWithin, Outcome, Step, Units, bad_of, taking}
-use Rattle.dvd_loop.specs.UnitCommand.{told, written}
+use Rattle.dvd_loop.specs.UnitCommand.{reported, written}
 use Rattle.dvd_loop.specs.declared.ends.LoopEnd.TheVariants.{Done}
 use Rattle.dvd_loop.specs.declared.ends.UnitKind.{UnitKind}
 use Rattle.dvd_loop.specs.declared.ends.UnitKind.TheVariants.{Last}
-use Rattle.dvd_loop.proofs.Faultless.{all_done, faultless_behind, short_or_broken}
-use Rattle.dvd_loop.proofs.Faults.{nothing_behind}
+use Rattle.dvd_loop.proofs.Faultless.{all_done, faultless_after, short_or_broken}
+use Rattle.dvd_loop.proofs.Faults.{nothing_after}
 use Rattle.dvd_loop.proofs.Over.{start, start-suc, start-zero}
 use Rattle.dvd_loop.proofs.Reached.{goes_further}
 use Rattle.dvd_loop.proofs.StepLemmas.{onto}
@@ -16,7 +16,7 @@ use Rattle.dvd_loop.proofs.StepLemmas.{onto}
 not_within : (units : Units) (k : ℕ) (bytes : List ℕ) (a : Outcome) → IsEndedWithin units k bytes a → IsFaultless a.end → IsOver a.end → ⊥
 not_within units k bytes a w none over = elim (short_or_broken units k bytes a w none) [
   | inl (cut, is) ↦ subst IsOver (ap (λ (o : Outcome). o.end) is) over
-  | inr (at, own, left, front, broken, is) ↦ subst IsOver (ap (λ (o : Outcome). o.end) is) over
+  | inr (at, own, left, prefix, broken, is) ↦ subst IsOver (ap (λ (o : Outcome). o.end) is) over
 ]
 
 -- Units none of which is the last, each of which writes so many bytes; nothing opens or closes them.
@@ -34,7 +34,7 @@ module _ (units : Units) (wide : ℕ → ℕ) (are : AreWide units wide) where
   unfolding Continues
   goes_wide zero before bad bytes a all (steps, closes, does) none over =
       let here : length before ≡ units.count = omega arith in
-      let nothing = (nothing_behind units.after_last bad bytes a (subst (λ l. Performs l (EndsAfterLast units.after_last bad bytes) a) (are.closes before steps closes) does)).0 in
+      let nothing = (nothing_after units.after_last bad bytes a (subst (λ l. Performs l (EndsAfterLast units.after_last bad bytes) a) (are.closes before steps closes) does)).0 in
       omega (arith, ap length nothing, ap (start wide) here)
   goes_wide (suc n) before bad bytes a all goes none over = elim goes [
     | inl w ↦ absurd (not_within units (length before) bytes a w none over)
@@ -44,11 +44,11 @@ module _ (units : Units) (wide : ℕ → ℕ) (are : AreWide units wide) where
         let faultless : IsFaultless t.after.end = subst (λ (o : Outcome). IsFaultless o.end) t.takes none in
         let all_taken = all_done t.steps (ContinuesAfter t.kind Next) t.after t.does faultless in
         let goes_next = goes_further t.kind Next all_taken.after unit.1 all_taken.holds in
-        let is : a ≡ onto t.own (written t.steps) (told t.steps) all_taken.after = t.takes ∙ ap (taking t.own) all_taken.is in
+        let is : a ≡ onto t.own (written t.steps) (reported t.steps) all_taken.after = t.takes ∙ ap (taking t.own) all_taken.is in
         let one : length (before ++ t.own ∷ []) ≡ length before + 1 = length-append before (t.own ∷ []) in
         let further = ap (start wide) (one ∙ add-one (length before)) ∙ start-suc wide (length before) in
         let rest = goes_wide n (before ++ t.own ∷ []) (bad + bad_of t.kind) t.left all_taken.after (omega arith) goes_next
-        (faultless_behind t.steps (ContinuesAfter t.kind Next) t.after all_taken faultless) (subst IsOver (ap (λ (o : Outcome). o.end) is) over) in
+        (faultless_after t.steps (ContinuesAfter t.kind Next) t.after all_taken faultless) (subst IsOver (ap (λ (o : Outcome). o.end) is) over) in
         omega (
           arith,
           ap (λ (o : Outcome). length o.out) is,

@@ -11,7 +11,7 @@ use Rattle.dvd_capture.specs.declared.form.Form.{Form}
 use Rattle.dvd_layout.specs.declared.layout.Layout.{Layout}
 use Rattle.dvd_loop.specs.Laws.{IsPlainEnd}
 use Rattle.dvd_loop.specs.Machine.{Step, Units, sized}
-use Rattle.dvd_loop.specs.Machine.Step.{Tell, Write}
+use Rattle.dvd_loop.specs.Machine.Step.{Report, Write}
 use Rattle.dvd_loop.specs.declared.ends.AfterLast.TheVariants.{EndOfInput}
 use Rattle.dvd_loop.specs.declared.ends.LoopEnd.{LoopEnd}
 use Rattle.dvd_loop.specs.declared.ends.LoopEnd.TheVariants.{ReportFault}
@@ -40,7 +40,7 @@ placed_line placed strays = codes "placed " ++ decimal placed ++ codes " strays 
 abbrev pub assembled_steps : Layout → List Frame → List Step
 assembled_steps layout frames =
     Write (text_of (assembled layout frames))
-    ∷ Tell (placed_line (placed_of layout frames) (length frames - placed_of layout frames)) ∷ []
+    ∷ Report (placed_line (placed_of layout frames) (length frames - placed_of layout frames)) ∷ []
 
 -- the units are the frames; nothing is done for one before the last of them
 abbrev pub assemble_units : Layout → Form → ℕ → Units

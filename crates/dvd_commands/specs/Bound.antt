@@ -40,7 +40,7 @@ IsRescued other = IsRecovered
 -- Captured block k is whole in the stream, and it was mastered for its place of this image and this CPR_MAI.
 pub record WasMastered (layout : Layout) (zones : Zones) (form : Form) (bytes cpr image : List ℕ) (k : ℕ) (entry : BlockPlan) : Type 0 where
   pub whole : HasBlocks form bytes (k + 1)
-  pub stands : slice_get (plan_of layout zones) k ≡ Some entry
+  pub is_there : slice_get (plan_of layout zones) k ≡ Some entry
   pub is_image : IsImage entry.content
   pub cpr_size : length cpr ≡ 6
   pub image_size : length image ≡ 2048 * total_sectors layout

@@ -93,7 +93,7 @@ IsSoughtEnd form count end = IsSearchEnd count end
 -- marks of the block.
 pub record IsDoneByEntry (entries : List BlockPlan) (Performs : BlockPlan → List (List ℕ) → List (List Bool) → List Step → UnitKind → Type 0) (form : Form) (k : ℕ) (own : List ℕ) (steps : List Step) (kind : UnitKind) : Type 0 where
   pub entry : BlockPlan
-  pub stands : slice_get entries k ≡ Some entry
+  pub is_there : slice_get entries k ≡ Some entry
   pub does : Performs entry (captured_rows form own) (captured_marks form own) steps kind
 
 -- nothing is done for a block that is passed over

@@ -6,7 +6,7 @@ use Rattle.cd_sector.specs.Causes.{IsCause, IsRightSector}
 use Rattle.cd_sector.specs.Repair.{repaired}
 use Rattle.cd_sector.specs.declared.checking.CdCause.{CdCause}
 use Rattle.dvd_loop.specs.Machine.{Step, Units, plain_units}
-use Rattle.dvd_loop.specs.Machine.Step.{Write, Tell}
+use Rattle.dvd_loop.specs.Machine.Step.{Write, Report}
 use Rattle.dvd_loop.specs.declared.ends.UnitKind.{UnitKind}
 use Rattle.dvd_loop.specs.declared.ends.UnitKind.TheVariants.{Good, Bad}
 use Rattle.dvd_commands.specs.CdLines.{damaged_sector_line}
@@ -26,7 +26,7 @@ pub record IsSectorGiven (address : ℕ) (read : List ℕ) (steps : List Step) (
 pub record IsSectorRefused (address k : ℕ) (read : List ℕ) (steps : List Step) (kind : UnitKind) : Type 0 where
   pub cause : CdCause
   pub is_cause : IsCause (repaired read) address cause
-  pub tells : steps ≡ Tell (damaged_sector_line k cause) ∷ Write (replicate 2048 0) ∷ []
+  pub reports : steps ≡ Report (damaged_sector_line k cause) ∷ Write (replicate 2048 0) ∷ []
   pub bad : kind ≡ Bad
 
 -- what is done for sector k of the input, which has this address

@@ -13,7 +13,7 @@ use Rattle.dvd_layout.specs.declared.entry.BlockPlan.{BlockPlan}
 use Rattle.dvd_layout.specs.declared.layout.Layout.{Layout}
 use Rattle.dvd_layout.specs.declared.layout.Zones.{Zones}
 use Rattle.dvd_loop.specs.Machine.{Step, Units}
-use Rattle.dvd_loop.specs.Machine.Step.{Write, Tell}
+use Rattle.dvd_loop.specs.Machine.Step.{Write, Report}
 use Rattle.dvd_loop.specs.declared.ends.UnitKind.{UnitKind}
 use Rattle.dvd_loop.specs.declared.ends.UnitKind.TheVariants.{Good}
 use Rattle.dvd_decoding.specs.Causes.{two_pass_cause}
@@ -24,16 +24,16 @@ use Rattle.dvd_commands.specs.Recover.{IsRefused}
 use Rattle.dvd_commands.specs.Meaning.{Meaning, by_layout}
 
 -- the line of a round, where the two passes have a cause
-abbrev pub round_told : Option Cause → ℕ → BlockPlan → ℕ → List Step
-round_told None k entry round = []
-round_told (Some cause) k entry round = Tell (round_line k entry round) ∷ []
+abbrev pub round_report : Option Cause → ℕ → BlockPlan → ℕ → List Step
+round_report None k entry round = []
+round_report (Some cause) k entry round = Report (round_line k entry round) ∷ []
 
 -- A round gives the block back and its frames are right: its image sectors are written, after the line of the round.
 pub record IsGivenBack (layout : Layout) (k : ℕ) (entry : BlockPlan) (rows : List (List ℕ)) (marks : List (List Bool)) (steps : List Step) (kind : UnitKind) : Type 0 where
   pub round : ℕ
   pub sectors : List (List ℕ)
   pub read : IsDeep rows marks entry round sectors
-  pub writes : steps ≡ round_told (two_pass_cause (answers_of rows marks)) k entry round
+  pub writes : steps ≡ round_report (two_pass_cause (answers_of rows marks)) k entry round
       ++ Write (flat_map (λ sector. sector) (take (image_sectors layout entry.content) sectors)) ∷ []
   pub good : kind ≡ Good
 

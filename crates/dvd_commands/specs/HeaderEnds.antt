@@ -3,7 +3,7 @@ use Rattle.std.specs.Prelude.{◌≡◌, ◌<◌, ℕ, List, [], length, None}
 use Rattle.std.specs.Io.KnownBytes.{Consumes}
 use Rattle.dvd_layout.specs.declared.layout.Layout.{Layout}
 use Rattle.dvd_layout.specs.declared.layout.Zones.{Zones}
-use Rattle.dvd_loop.specs.Streams.{IsTold}
+use Rattle.dvd_loop.specs.Streams.{AreKnown}
 use Rattle.dvd_ports.specs.Causes.{HasFailed, HasGoneOn, HasMetEnd}
 use Rattle.dvd_ports.specs.Seen.{Seen}
 use Rattle.dvd_commands.specs.Opening.{BreaksHeader, IsHeaderOf}
@@ -45,5 +45,5 @@ pub record ReadsHeader (end : HeaderEnd) (old new : Seen) : Type 0 where
   pub own : List ℕ
   pub left : List ℕ
   pub reads : Consumes old.bytes new.bytes own
-  pub told : IsTold new.bytes left
+  pub known : AreKnown new.bytes left
   pub answers : AnswersHeader end own left

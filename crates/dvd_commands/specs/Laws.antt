@@ -115,7 +115,7 @@ pub record BreaksOff (initial : ℕ) (form : Form) (bytes : List ℕ) (a : Outco
   pub whole : HasBlocks form bytes k
   pub broken : captured_part form (from_block form bytes k) ≡ Broken at
   pub own : List ℕ
-  pub front : IsPrefixOf own (from_block form bytes k)
+  pub prefix : IsPrefixOf own (from_block form bytes k)
   pub taken : captured_part form own ≡ Broken at
   pub is : a ≡ record { taken = take (block_start form bytes k) bytes ++ own; out = []; lines = []; end = BadMarks k at }
 

@@ -63,7 +63,7 @@ frames_of layout entry cpr sectors = map (frame_for layout entry cpr sectors) (r
 -- What is done for block k of the plan: the recording of the one block of its sixteen frames is written.
 pub record IsMastered (layout : Layout) (zones : Zones) (cpr : List ℕ) (k : ℕ) (own : List ℕ) (steps : List Step) (kind : UnitKind) : Type 0 where
   pub entry : BlockPlan
-  pub stands : slice_get (plan_of layout zones) k ≡ Some entry
+  pub is_there : slice_get (plan_of layout zones) k ≡ Some entry
   pub block : List (List ℕ)
   pub is_block : IsBlockOf (frames_of layout entry cpr (filled_block own)) block
   pub writes : steps ≡ Write (recording block) ∷ []

@@ -70,8 +70,8 @@ BreaksHeader settings own at =
 
 -- What comes after the bytes that were read as the header: the input ended within it, or a read failed there; or it is
 -- a header that breaks a rule; or it states settings, and the loop runs by these.
-abbrev pub ComesBehind : (Settings → List ℕ → Outcome → Type 0) → Settings → List ℕ → List ℕ → Outcome → Type 0
-ComesBehind Loops settings own left after =
+abbrev pub ComesAfterHeader : (Settings → List ℕ → Outcome → Type 0) → Settings → List ℕ → List ℕ → Outcome → Type 0
+ComesAfterHeader Loops settings own left after =
     ((length own < 32) × (((left ≡ []) × (after ≡ ended (ShortHeader (length own)))) ⊎ (after ≡ ended ReadFault)))
     ⊎ ((length own ≡ 32) × (((at : ℕ) × BreaksHeader settings own at × (after ≡ ended (BadHeader at)))
     ⊎ ((stated : Settings) × IsHeaderOf settings stated own × (broken_rule stated ≡ None) × Loops stated left after)))
@@ -80,9 +80,9 @@ ComesBehind Loops settings own left after =
 pub record IsOpened (Loops : Settings → List ℕ → Outcome → Type 0) (settings : Settings) (bytes : List ℕ) (outcome : Outcome) : Type 0 where
   pub own : List ℕ
   pub left : List ℕ
-  pub front : bytes ≡ own ++ left
+  pub prefix : bytes ≡ own ++ left
   pub after : Outcome
-  pub comes : ComesBehind Loops settings own left after
+  pub comes : ComesAfterHeader Loops settings own left after
   pub takes : outcome ≡ taking own after
 
 -- the captures of this form open with a header

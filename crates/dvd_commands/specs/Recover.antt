@@ -11,7 +11,7 @@ use Rattle.dvd_layout.specs.declared.entry.BlockPlan.{BlockPlan}
 use Rattle.dvd_layout.specs.declared.layout.Layout.{Layout}
 use Rattle.dvd_layout.specs.declared.layout.Zones.{Zones}
 use Rattle.dvd_loop.specs.Machine.{Step, Units}
-use Rattle.dvd_loop.specs.Machine.Step.{Write, Tell}
+use Rattle.dvd_loop.specs.Machine.Step.{Write, Report}
 use Rattle.dvd_loop.specs.declared.ends.UnitKind.{UnitKind}
 use Rattle.dvd_loop.specs.declared.ends.UnitKind.TheVariants.{Good, Bad}
 use Rattle.dvd_decoding.specs.Reading.{IsReadAs, block_cause}
@@ -36,7 +36,7 @@ pub record IsGiven (layout : Layout) (entry : BlockPlan) (rows : List (List ℕ)
 pub record IsRefused (has : Option Cause) (layout : Layout) (k : ℕ) (entry : BlockPlan) (rows : List (List ℕ)) (marks : List (List Bool)) (steps : List Step) (kind : UnitKind) : Type 0 where
   pub cause : Cause
   pub first : has ≡ Some cause
-  pub tells : steps ≡ Tell (damage_line k entry cause (saved_in rows marks entry)) ∷ Write (flat_map (λ sector. sector) (take (image_sectors layout entry.content) (block_out rows marks entry))) ∷ []
+  pub reports : steps ≡ Report (damage_line k entry cause (saved_in rows marks entry)) ∷ Write (flat_map (λ sector. sector) (take (image_sectors layout entry.content) (block_out rows marks entry))) ∷ []
   pub bad : kind ≡ Bad
 
 -- what is done for a block that holds image

@@ -36,7 +36,7 @@ kind_by (Some cause) = Bad
 -- too.
 pub record IsSurveyed (layout : Layout) (zones : Zones) (form : Form) (k : ℕ) (before : List (List ℕ)) (own : List ℕ) (steps : List Step) (kind : UnitKind) : Type 0 where
   pub entry : BlockPlan
-  pub stands : slice_get (plan_of layout zones) k ≡ Some entry
+  pub is_there : slice_get (plan_of layout zones) k ≡ Some entry
   pub writes : steps ≡ Write (survey_line k entry (found_in layout zones form (before ++ own ∷ []))) ∷ []
   pub answers : kind ≡ kind_by (block_cause (captured_rows form own) (captured_marks form own) entry)
 

@@ -24,7 +24,7 @@ impl Blocks {
     /// The entry of block `k`. Each is made when it is its turn, so a plan needs no memory.
     pub fn at(&self, k: u32) -> BlockPlan
         requires { k < length (plan_of self.now.layout self.now.zones) }
-        ensures stands { slice_get (plan_of self.now.layout self.now.zones) k ≡ Some result }
+        ensures is_there { slice_get (plan_of self.now.layout self.now.zones) k ≡ Some result }
         ensures numbers { HasNumbers result }
     {
         self.layout.plan(self.zones, u64::from(k))

@@ -29,7 +29,7 @@ ghost use Rattle.dvd_report.specs.Lines.{round_line};
 ghost use Rattle.dvd_commands.specs.Captured.{ForImage, IsCaptureEnd};
 ghost use Rattle.dvd_commands.specs.Deep.{IsImageRead, deep_units};
 ghost use Rattle.dvd_commands.specs.Performed.{IsPerformed};
-ghost use Rattle.dvd_commands.specs.Inner.Performing.{IsFoundBy, TellsAndWrites};
+ghost use Rattle.dvd_commands.specs.Inner.Performing.{IsFoundBy, ReportsAndWrites};
 ghost use Rattle.dvd_words.specs.Settings.{IsLayoutOf};
 
 use crate::blocks::Blocks;
@@ -230,7 +230,7 @@ fn give_back<K: Sink, E: Sink>(
     report: &mut E,
 ) -> Processed
     requires { HasNumbers entry.now }
-    ensures { (source : Seen) → AreDone (TellsAndWrites (round_line k entry.now round) sectors.now Good)
+    ensures { (source : Seen) → AreDone (ReportsAndWrites (round_line k entry.now round) sectors.now Good)
         (streams source (K.seen out.old) (E.seen report.old)) (streams source (K.seen out.new) (E.seen report.new)) result }
 {
     line_reported(write_round(u64::from(k), entry, round, report))?;

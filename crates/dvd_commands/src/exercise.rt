@@ -31,7 +31,7 @@ ghost use Rattle.dvd_read.specs.Calls.{IsBlockRead};
 ghost use Rattle.dvd_decoding.specs.Reading.{block_cause, IsReadAs};
 ghost use Rattle.dvd_commands.specs.Exercise.{IsLeft, drawn_sector, drawn_sectors, exercise_line, exercise_units, no_marks, state_at};
 ghost use Rattle.dvd_commands.specs.Master.{frames_of};
-ghost use Rattle.dvd_commands.specs.Inner.Exercising.{CountsOne, IsBehind, IsDiskOf, are_sectors};
+ghost use Rattle.dvd_commands.specs.Inner.Exercising.{CountsOne, HaveBeenTried, IsDiskOf, are_sectors};
 ghost use Rattle.dvd_commands.specs.Performed.{IsPerformedByWords};
 ghost use Rattle.dvd_commands.specs.Inner.Workers.{IsAdder, IsReader, MayRead, MayWork};
 
@@ -119,7 +119,7 @@ where
 
     ghost units = { λ key. exercise_units key.0 key.1 };
 
-    ghost ready = { λ e before. IsBehind e.seed (length before) (state_of e.rand) e.counts e.work.now
+    ghost ready = { λ e before. HaveBeenTried e.seed (length before) (state_of e.rand) e.counts e.work.now
         × IsAdder A.Fn e.add.now × IsReader F.Fn e.read.now };
 
     ghost left = { λ e _. IsLeft e.seed (e.blocks - 1) e.work.now };

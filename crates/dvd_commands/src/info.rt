@@ -22,7 +22,7 @@ ghost use Rattle.dvd_commands.specs.Commands.{GoesOver};
 ghost use Rattle.dvd_commands.specs.Opening.{IsOpened};
 ghost use Rattle.dvd_commands.specs.Info.{IsAsked, IsControlDone, info_units};
 ghost use Rattle.dvd_commands.specs.Performed.{IsPerformed};
-ghost use Rattle.dvd_commands.specs.Inner.Performing.{AnswersNothing, Tells};
+ghost use Rattle.dvd_commands.specs.Inner.Performing.{AnswersNothing, GivesFormat};
 
 use crate::captured::fetch_block;
 use crate::format::format_lines;
@@ -38,7 +38,7 @@ use dvd_read::read_block;
 use dvd_words::{Command, Settings};
 
 // The blocks of the lead-in after its Initial Zone, up to the last of control data: 2 + 30 + 192.
-const BLOCKS_BEHIND_INITIAL: u32 = 224;
+const BLOCKS_AFTER_INITIAL: u32 = 224;
 
 /// The blocks of the lead-in up to the last of control data, and the memory of one block. By `fits` their number has 32
 /// bits.
@@ -66,7 +66,7 @@ impl<'a, S: Source, K: Sink, E: Sink> UnitCommand<S, K, E> for Info<'a> {
     ghost left = { λ _ _. Unit {0} };
 
     fn count(&self) -> u32 {
-        self.initial + BLOCKS_BEHIND_INITIAL
+        self.initial + BLOCKS_AFTER_INITIAL
     }
 
     // The units run out only where none answered: one that answers ends the run.
@@ -188,7 +188,7 @@ fn ask_control<K: Sink>(entry: &BlockPlan, work: &mut Work, out: &mut K) -> Proc
 fn format_in(entry: &BlockPlan, work: &mut Work) -> Option<PhysicalFormat>
     requires numbers { HasNumbers entry.now }
     requires stage { HasBlock (stage_of work.old) }
-    ensures format { IfSome result (λ format. Tells entry.now (rows_of work.old) (marks_of_work work.old) (fields_of format)) }
+    ensures format { IfSome result (λ format. GivesFormat entry.now (rows_of work.old) (marks_of_work work.old) (fields_of format)) }
     ensures none { result ≡ None → AnswersNothing entry.now (rows_of work.old) (marks_of_work work.old) }
 {
     read_block(work, entry).ok()?;

@@ -2,7 +2,7 @@
 //! It reads every block, also one without image: it shows where a surface fails. The lines are its results, so they go
 //! to the output, and nothing but the closing line of a run goes to the report.
 //!
-//! `Survey` has the totals and what is needed of the last blocks (`StandsFor` says of which list of blocks it is the
+//! `Survey` has the totals and what is needed of the last blocks (`Represents` says of which list of blocks it is the
 //! survey). `Work` is the memory of one captured block. Both are the caller's.
 //!
 //! In the clauses `IsLayoutOf` says that the layout is the one that the settings ask for, `HasBlock` that the work
@@ -25,7 +25,7 @@ ghost use Rattle.dvd_loop.specs.Machine.{IsOutcome};
 ghost use Rattle.dvd_loop.specs.Streams.{streams, HasEnded};
 ghost use Rattle.dvd_loop.specs.UnitCommand.{AreDone, HaveCausesFor};
 ghost use Rattle.dvd_ports.specs.Seen.{Seen};
-ghost use Rattle.dvd_report.specs.Survey.{StandsFor, surveyed};
+ghost use Rattle.dvd_report.specs.Survey.{Represents, surveyed};
 ghost use Rattle.dvd_report.specs.declared.counts.Surveyed.{Surveyed};
 ghost use Rattle.dvd_read.specs.Calls.{IsBlockRead};
 ghost use Rattle.dvd_commands.specs.Captured.{IsCaptureEnd};
@@ -75,7 +75,7 @@ where
 
     ghost units = { λ key. survey_units key.0 key.1 key.2 };
 
-    ghost ready = { λ s before. StandsFor s.survey.now (found_in s.blocks.layout s.blocks.zones s.form before) × IsReader F.Fn s.read.now };
+    ghost ready = { λ s before. Represents s.survey.now (found_in s.blocks.layout s.blocks.zones s.form before) × IsReader F.Fn s.read.now };
 
     ghost left = { λ _ _. Unit {0} };
 
@@ -121,7 +121,7 @@ pub fn survey_loop<R: Threads + Sync, S: Source, K: Sink, G: Gate>(
 ) -> LoopEnd
     requires layout { IsLayoutOf settings.now layout.now }
     requires workers { (1 ≤ settings.now.workers) × (settings.now.workers ≤ 16) }
-    requires empty { StandsFor survey.old [] }
+    requires empty { Represents survey.old [] }
     ensures follows { (report : Seen) → HasEnded (IsOutcome (survey_units layout.now settings.now.zones settings.now.form))
         (streams (S.seen src.old) (K.seen out.old) report) (streams (S.seen src.new) (K.seen out.new) report) result }
     ensures ends { IsCaptureEnd settings.now.form (length (plan_of layout.now settings.now.zones)) result }
@@ -196,9 +196,9 @@ fn survey_block<F: Fn(&mut Work, &BlockPlan) -> Result<Fixed, Cause>, K: Sink>(
     requires numbers { HasNumbers entry.now }
     requires stage { HasBlock (stage_of work.old) }
     requires room { survey.old.totals.blocks < 2 ^ 32 }
-    ensures survey { (blocks : List Surveyed) → StandsFor survey.old blocks
-        → StandsFor survey.new (blocks ++ surveyed (rows_of work.old) (marks_of_work work.old) entry.now ∷ []) }
-    ensures done { (source report : Seen) (blocks : List Surveyed) → StandsFor survey.old blocks
+    ensures survey { (blocks : List Surveyed) → Represents survey.old blocks
+        → Represents survey.new (blocks ++ surveyed (rows_of work.old) (marks_of_work work.old) entry.now ∷ []) }
+    ensures done { (source report : Seen) (blocks : List Surveyed) → Represents survey.old blocks
         → AreDone (IsLineDone entry.now blocks (rows_of work.old) (marks_of_work work.old))
         (streams source (K.seen out.old) report) (streams source (K.seen out.new) report) result }
     ensures causes { (source report : Seen) → HaveCausesFor result

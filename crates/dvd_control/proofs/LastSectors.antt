@@ -81,8 +81,8 @@ pub opposite-first : (layout : Layout) → layout.shape ≡ Opposite → second_
 opposite-first layout is = ap (λ s. if is_opposite s then 0xFD0000 - padded layout.sectors0 else data_first) is
 
 -- the lead-in of a layer names the last sector of the Data Zone
-abbrev IsTold : Layout → Shape → ℕ → Type 0
-IsTold layout shape layer =
+abbrev AreKnown : Layout → Shape → ℕ → Type 0
+AreKnown layout shape layer =
     option_map (λ entry. entry.first + 15) (last_block (filter (block_test (ends_on shape layer)) (flat_map entries_of (zones_by layout shape))))
     ≡ Some (last_by shape layout layer)
 
@@ -91,16 +91,16 @@ single-not_parallel : Single ≡ Parallel → ⊥
 single-not_parallel same = cc
 
 -- it is named rightly, since of the zones of a disk one alone is the Data Zone of that layer
-shape-told : (layout : Layout) (shape : Shape) (layer : ℕ) → layout.shape ≡ shape → HasLeadIn shape layer → IsTold layout shape layer
+shape-told : (layout : Layout) (shape : Shape) (layer : ℕ) → layout.shape ≡ shape → HasLeadIn shape layer → AreKnown layout shape layer
 shape-told layout Single layer is (inl zero) =
-    subst (IsTold layout Single) (sym zero) (one-zone 0 (zones_by layout Single) (first_data layout) _ refl (omega arith) (omega arith))
+    subst (AreKnown layout Single) (sym zero) (one-zone 0 (zones_by layout Single) (first_data layout) _ refl (omega arith) (omega arith))
 shape-told layout Single layer is (inr other) = absurd (single-not_parallel other.1)
 shape-told layout Parallel layer is (inl zero) =
-    subst (IsTold layout Parallel) (sym zero) (one-zone 0 (zones_by layout Parallel) (first_data layout) _ refl (omega arith) (omega arith))
+    subst (AreKnown layout Parallel) (sym zero) (one-zone 0 (zones_by layout Parallel) (first_data layout) _ refl (omega arith) (omega arith))
 shape-told layout Parallel layer is (inr one) =
     let some = layout.second_layer (ap has_two_layers is) in
     let begins : second_first layout ≡ data_first = ap (λ s. if is_opposite s then 0xFD0000 - padded layout.sectors0 else data_first) is in
-    subst (IsTold layout Parallel) (sym one.0) (one-zone 1 (zones_by layout Parallel) (second_data layout) _ refl (omega arith) (omega arith))
+    subst (AreKnown layout Parallel) (sym one.0) (one-zone 1 (zones_by layout Parallel) (second_data layout) _ refl (omega arith) (omega arith))
 shape-told layout Opposite layer is lead_in =
     let some = layout.second_layer (ap has_two_layers is) in
     let begins = opposite-first layout is in

@@ -60,7 +60,7 @@ plan_of-right layout zones =
 -- an entry with control data is in a lead-in
 pub entry-in_lead_in : (layout : Layout) (entry : BlockPlan) → IsEntry layout entry → ControlInLeadIn layout.shape entry.layer entry.content
 entry-in_lead_in layout entry is =
-    plan_of-at_place (IsRightEntry layout.shape) layout is.zones is.place entry (plan_of-right layout is.zones) is.stands
+    plan_of-at_place (IsRightEntry layout.shape) layout is.zones is.place entry (plan_of-right layout is.zones) is.is_there
 
 -- so a layer that has an entry with control data has a lead-in
 pub control-has_lead_in : (layout : Layout) (entry : BlockPlan) → IsEntry layout entry → entry.content ≡ Control → HasLeadIn layout.shape entry.layer
@@ -83,9 +83,9 @@ unfolding main_bytes
 control_first layout entry f is first = rw (is, first) refl
 
 -- and its other frames hold zeros
-pub control_behind : (layout : Layout) (entry : BlockPlan) (f : ℕ) → entry.content ≡ Control → f ≢ 0
+pub control_after : (layout : Layout) (entry : BlockPlan) (f : ℕ) → entry.content ≡ Control → f ≢ 0
     → replicate 2048 0 ≡ main_bytes layout entry f
 unfolding main_bytes
-control_behind layout entry f is behind =
+control_after layout entry f is past =
     let not_first : nat_eq f 0 ≡ false = grind (arith, nat_tests) in
     rw (is, not_first) refl

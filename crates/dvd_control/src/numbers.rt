@@ -26,12 +26,12 @@ pub(crate) fn last_of_layer_0(layout: &Layout) -> u32
 
 // The last sector of the Data Zone that the lead-in of a layer names. On the parallel path each layer has a Data Zone
 // of its own. On the opposite path one goes over both. A layer has a lead-in where it is 0, or 1 on the parallel path.
-// The clauses `behind` and `number` are what a format's ghost fields need.
+// The clauses `in_data` and `number` are what a format's ghost fields need.
 #[tactic(auto, unfolding(crate::specs::Format::fields_for))]
 pub(crate) fn last_of(layout: &Layout, layer: u8) -> u32
     requires { HasLeadIn layout.now.shape layer }
     ensures last { result ≡ (fields_for layout.now layer).last }
-    ensures behind { data_first ≤ result }
+    ensures in_data { data_first ≤ result }
     ensures number { result < 2 ^ 24 }
 {
     match layout.shape {

@@ -91,18 +91,18 @@ AreTold failed state answered j = (k : ℕ) → k < j → slice_index_or answere
 
 pub told-next : (failed : List Bool) (state : State) (answered : List Bool) (j : ℕ) (found : Bool) → length answered ≡ 182 → j < 182
     → found ≡ is_some (column_near failed state j) → AreTold failed state answered j → AreTold failed state (set answered j found) (j + 1)
-told-next failed state answered j found size below is told = λ k k_below. elim (cases_eq k j) [
+told-next failed state answered j found size below is said = λ k k_below. elim (cases_eq k j) [
   | inl same ↦
       ap (λ n. get_or (set answered j found) n false) same ∙ get_or-set_same answered j found false (omega (arith, size)) ∙ is
       ∙ ap (λ n. is_some (column_near failed state n)) (sym same)
-  | inr apart ↦ get_or-set_other answered j k found false apart ∙ told k (omega arith)
+  | inr apart ↦ get_or-set_other answered j k found false apart ∙ said k (omega arith)
 ]
 
 -- the marks that are left are those of the columns without an answer
 pub marks-left : (failed : List Bool) (state : State) (answered : List Bool) (marks : List (List Bool)) → AreTold failed state answered 182
     → AreMarksTaken answered state.marks marks → (i k : ℕ) → i < 208 → k < 182 → mark_in marks i k ≡ mark_then failed state i k
-marks-left failed state answered marks told taken i k below inside =
-    taken i k below inside ∙ ap (λ b. cond b false (mark_in state.marks i k)) (told k inside)
+marks-left failed state answered marks said taken i k below inside =
+    taken i k below inside ∙ ap (λ b. cond b false (mark_in state.marks i k)) (said k inside)
 
 -- all columns
 pub columns-all : (failed : List Bool) (state : State) (rows : List (List ℕ)) (marks : List (List Bool)) → length rows ≡ 208 → length marks ≡ 208

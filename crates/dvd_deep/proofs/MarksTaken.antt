@@ -3,13 +3,13 @@ use Rattle.std.proofs.Common.{◌≡◌, ◌≢◌, ◌∙◌, ℕ, ◌+◌, ◌
 use Rattle.std.proofs.lemmas.Bool.{cases_eq}
 use Rattle.std.proofs.lemmas.List.{get_or-replicate, get_or-set_same, get_or-set_other, length-set}
 use Rattle.dvd_capture.specs.Answers.{marks_line}
-use Rattle.dvd_deep.specs.Inner.Steps.{TellsMarked, mark_left}
+use Rattle.dvd_deep.specs.Inner.Steps.{MarksListed, mark_left}
 use Rattle.dvd_deep.specs.Rounds.{mark_in}
 
 -- a row that isn't noted as marked has no mark
-pub unmarked : (marks : List (List Bool)) (marked : List Bool) (i j : ℕ) → TellsMarked marks marked → i < 208 → j < 182 → slice_index_or marked i false ≡ false
+pub unmarked : (marks : List (List Bool)) (marked : List Bool) (i j : ℕ) → MarksListed marks marked → i < 208 → j < 182 → slice_index_or marked i false ≡ false
     → mark_in marks i j ≡ false
-unmarked marks marked i j tells below inside is = ap (λ row. get_or row j false) (tells i below is) ∙ get_or-replicate 182 j false false inside
+unmarked marks marked i j says below inside is = ap (λ row. get_or row j false) (says i below is) ∙ get_or-replicate 182 j false false inside
 
 -- nothing is taken from a row without marks
 pub none-taken : (answered row : List Bool) (j : ℕ) → row ≡ replicate 182 false → j < 182 → get_or row j false ≡ mark_left answered row j

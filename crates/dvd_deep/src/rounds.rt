@@ -3,7 +3,7 @@
 //! that and loses its marks. Others stay as they are, for the next round. A round finishes where all columns are
 //! answered, and all rows are codewords after that.
 //! In clauses `AreWide` says that each row has 182 bytes. The type has this too, but of an array in a list the checker
-//! doesn't know the length: so a step ensures it, and the next one requires it. `TellsMarked` says that a row that
+//! doesn't know the length: so a step ensures it, and the next one requires it. `MarksListed` says that a row that
 //! isn't noted has no mark. `HasBlock` says that a block was received: `Work` has no rows to read before.
 ghost use Rattle.std.specs.Prelude.{◌≡◌, ◌↔◌, ◌+◌, ◌<◌, ◌≤◌, ℕ, IsTrue, true, IfSome, Some, false, if◌then◌else◌, is_some, length, replicate, slice_index_or, slice_set, unwrap_or};
 ghost use Rattle.std.specs.List.{list_all};
@@ -15,7 +15,7 @@ ghost use Rattle.dvd_capture.specs.Rule.{HasBlock};
 ghost use Rattle.dvd_capture.specs.Works.{marks_of_work, rows_of, stage_of};
 ghost use Rattle.dvd_deep.specs.Inner.Buffers.{buffered_state, marks_of_rows};
 ghost use Rattle.dvd_deep.specs.Rounds.{after_rounds, are_answered, column_marks, column_near, column_step, failed_marks, finishes, first_round, mark_in, round, row_near, row_step, state_in};
-ghost use Rattle.dvd_deep.specs.Inner.Steps.{AreMarksTaken, AreWide, IsColumnPut, TellsMarked, mark_left};
+ghost use Rattle.dvd_deep.specs.Inner.Steps.{AreMarksTaken, AreWide, IsColumnPut, MarksListed, mark_left};
 
 use dvd_capture::{RowMarks, Work};
 use rs_code::{Code, Pi, Po};
@@ -151,7 +151,7 @@ fn answer_columns(rows: &mut Rows, marks: &mut Marks, failed: &[bool; 208]) -> b
 
 // The rows that have a mark. They are found once, so that columns needn't look at rows without marks.
 fn marked_rows(marks: &Marks) -> [bool; 208]
-    ensures { TellsMarked (marks_of_rows marks.now) result }
+    ensures { MarksListed (marks_of_rows marks.now) result }
 {
     let mut marked = [false; 208];
     for i in 0..208usize {
@@ -172,7 +172,7 @@ fn answer_column(
 ) -> bool
     requires place { j < 182 }
     requires wide { AreWide rows.old }
-    requires marked { TellsMarked (marks_of_rows marks.now) marked.now }
+    requires marked { MarksListed (marks_of_rows marks.now) marked.now }
     ensures answered { result ≡ is_some (column_near failed.now (buffered_state rows.old marks.now) j) }
     ensures column { IsColumnPut j (unwrap_or (column_near failed.now (buffered_state rows.old marks.now) j) (column rows.old j)) rows.old rows.new }
     ensures wide { AreWide rows.new }
@@ -198,7 +198,7 @@ fn answer_column_word(
     j: usize,
 ) -> bool
     requires place { j < 182 }
-    requires marked { TellsMarked (marks_of_rows marks.now) marked.now }
+    requires marked { MarksListed (marks_of_rows marks.now) marked.now }
     ensures answered { result ≡ is_some (option_or (near_of 208 16 word.old failed.now) (near_of 208 16 word.old (column_marks (marks_of_rows marks.now) j))) }
     ensures word { word.new ≡ unwrap_or (option_or (near_of 208 16 word.old failed.now) (near_of 208 16 word.old (column_marks (marks_of_rows marks.now) j))) word.old }
 {
@@ -218,7 +218,7 @@ fn read_column(rows: &Rows, j: usize, word: &mut [u8; 208])
 // The marks of column `j`. Only marked rows are read.
 fn own_marks(marks: &Marks, marked: &[bool; 208], j: usize) -> [bool; 208]
     requires place { j < 182 }
-    requires marked { TellsMarked (marks_of_rows marks.now) marked.now }
+    requires marked { MarksListed (marks_of_rows marks.now) marked.now }
     ensures { result ≡ column_marks (marks_of_rows marks.now) j }
 {
     let mut own = [false; 208];
@@ -234,7 +234,7 @@ fn own_marks(marks: &Marks, marked: &[bool; 208], j: usize) -> [bool; 208]
 fn own_mark(marks: &Marks, marked: &[bool; 208], i: usize, j: usize) -> bool
     requires row { i < 208 }
     requires place { j < 182 }
-    requires marked { TellsMarked (marks_of_rows marks.now) marked.now }
+    requires marked { MarksListed (marks_of_rows marks.now) marked.now }
     ensures { result ≡ mark_in (marks_of_rows marks.now) i j }
 {
     marked[i] && marks[i].get(j)

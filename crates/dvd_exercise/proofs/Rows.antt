@@ -63,11 +63,11 @@ hit_turn start n row hit =
 
 -- a row that is the row of no turn below n isn't hit
 pub miss_from_none : (start n row : ℕ) → ((t : ℕ) → t < n → damaged_row start t ≢ row) → is_hit start n row ≡ false
-miss_from_none start n row none = told (is_hit start n row) (λ hit. let found = hit_turn start n row hit in none found.0 found.1 found.2) where
+miss_from_none start n row none = said (is_hit start n row) (λ hit. let found = hit_turn start n row hit in none found.0 found.1 found.2) where
   -- what isn't true is false
-  told : (b : Bool) → (b ≡ true → ⊥) → b ≡ false
-  told true never = absurd (never refl)
-  told false never = refl
+  said : (b : Bool) → (b ≡ true → ⊥) → b ≡ false
+  said true never = absurd (never refl)
+  said false never = refl
 
 -- the state of the first row
 pub state_first : (start n y : ℕ) → row_state start n y 0 ≡ y

@@ -6,7 +6,7 @@ use Rattle.std.proofs.lemmas.Nat.{xor_lt, field_of, mod-pow-add, pow-add}
 use Rattle.std.proofs.Math.Nat.{pow-suc, div-div-eq-div-mul}
 use Rattle.std.proofs.Math.Pow.{mod-mod-pow}
 use Rattle.std.proofs.lemmas.Nat.Bits.{bit_at_xor, bit_at-lt, bit_at-suc, bit_at_lowest}
-use Rattle.coding.specs.BitDivision.{plus_front}
+use Rattle.coding.specs.BitDivision.{plus_prefix}
 use Rattle.coding.specs.Bits.{bits, number_of}
 
 -- the lowest n bits of a number are n bits
@@ -22,12 +22,12 @@ xor_bits a b bit_a bit_b =
     omega (arith, bit_at_xor a b 0)
 
 -- the bits of two numbers add up to those of their sum
-pub plus_front-bits : (n a b : ℕ) → plus_front (bits n a) (bits n b) ≡ bits n (bit_xor a b)
-unfolding bits plus_front
-plus_front-bits zero a b = refl
-plus_front-bits (suc n) a b =
-    ap (λ (bit : ℕ). bit ∷ plus_front (bits n a) (bits n b)) (xor_bits (bit_at a n) (bit_at b n) (bit_at-lt a n) (bit_at-lt b n) ∙ sym (bit_at_xor a b n))
-    ∙ ap (λ (rest : List ℕ). bit_at (bit_xor a b) n ∷ rest) (plus_front-bits n a b)
+pub plus_prefix-bits : (n a b : ℕ) → plus_prefix (bits n a) (bits n b) ≡ bits n (bit_xor a b)
+unfolding bits plus_prefix
+plus_prefix-bits zero a b = refl
+plus_prefix-bits (suc n) a b =
+    ap (λ (bit : ℕ). bit ∷ plus_prefix (bits n a) (bits n b)) (xor_bits (bit_at a n) (bit_at b n) (bit_at-lt a n) (bit_at-lt b n) ∙ sym (bit_at_xor a b n))
+    ∙ ap (λ (rest : List ℕ). bit_at (bit_xor a b) n ∷ rest) (plus_prefix-bits n a b)
 
 -- one bit more at the end
 pub bits_more : (n number bit : ℕ) → bit < 2 → bits (suc n) (2 * number + bit) ≡ bits n number ++ bit ∷ []

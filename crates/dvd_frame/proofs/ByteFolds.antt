@@ -11,30 +11,30 @@ use Rattle.std.proofs.lemmas.List.FromFn.{get_or-map-range_with_len}
 use Rattle.std.proofs.lemmas.Nat.{xor_lt}
 use Rattle.std.proofs.lemmas.Nat.Bits.{bit_at_xor, same_from_bits}
 use Rattle.std.proofs.lemmas.Slice.Eq.{bytes_eq-Decides}
-use Rattle.coding.specs.BitDivision.{plus_front, remainder_by}
-use Rattle.gf_field.proofs.BitDivision.{length-plus_front, remainder_by_twice}
+use Rattle.coding.specs.BitDivision.{plus_prefix, remainder_by}
+use Rattle.gf_field.proofs.BitDivision.{length-plus_prefix, remainder_by_twice}
 use Rattle.coding.specs.Bits.{bits, number_of}
 use Rattle.dvd_frame.specs.Edc.{remainder, divisor}
 use Rattle.dvd_frame.specs.Inner.Registers.{byte_remainder}
-use Rattle.dvd_frame.proofs.BitLists.{length-bits, plus_front-bits, bits-mod, number_of-bits}
-use Rattle.dvd_frame.proofs.Multiples.{IsBit, bits-bits, length-remainder, bits-remainder, bits-number_of, plus_front_self}
-use Rattle.dvd_frame.proofs.Division.{plus_front-append, padded, length-padded, bits-padded, bits-byte_remainder}
-use Rattle.dvd_frame.proofs.WordDivision.{divided_sum, plus_front_within}
+use Rattle.dvd_frame.proofs.BitLists.{length-bits, plus_prefix-bits, bits-mod, number_of-bits}
+use Rattle.dvd_frame.proofs.Multiples.{IsBit, bits-bits, length-remainder, bits-remainder, bits-number_of, plus_prefix_self}
+use Rattle.dvd_frame.proofs.Division.{plus_prefix-append, padded, length-padded, bits-padded, bits-byte_remainder}
+use Rattle.dvd_frame.proofs.WordDivision.{divided_sum, plus_prefix_within}
 
 -- division leaves what comes after the bits that its steps reach
-remainder_front : (n : ℕ) (xs ys : List ℕ) → n + 32 ≤ length xs → remainder n (xs ++ ys) ≡ remainder n xs ++ ys
+remainder_prefix : (n : ℕ) (xs ys : List ℕ) → n + 32 ≤ length xs → remainder n (xs ++ ys) ≡ remainder n xs ++ ys
 unfolding remainder_by
-remainder_front zero xs ys within = refl
-remainder_front (suc n) [] ys within = absurd (omega arith)
-remainder_front (suc n) (x ∷ xs) ys within = each (λ zs long. remainder_front n zs ys long) (eqb x 1) where
+remainder_prefix zero xs ys within = refl
+remainder_prefix (suc n) [] ys within = absurd (omega arith)
+remainder_prefix (suc n) (x ∷ xs) ys within = each (λ zs long. remainder_prefix n zs ys long) (eqb x 1) where
   by : List ℕ
   by = bits 32 divisor
 
   each : ((zs : List ℕ) → n + 32 ≤ length zs → remainder n (zs ++ ys) ≡ remainder n zs ++ ys) → (taken : Bool)
-      → remainder n (cond taken (plus_front (xs ++ ys) by) (xs ++ ys)) ≡ remainder n (cond taken (plus_front xs by) xs) ++ ys
+      → remainder n (cond taken (plus_prefix (xs ++ ys) by) (xs ++ ys)) ≡ remainder n (cond taken (plus_prefix xs by) xs) ++ ys
   each below true =
-      ap (remainder n) (plus_front_within xs ys by (omega (arith, length-bits 32 divisor)))
-      ∙ below (plus_front xs by) (omega (arith, length-plus_front xs by))
+      ap (remainder n) (plus_prefix_within xs ys by (omega (arith, length-bits 32 divisor)))
+      ∙ below (plus_prefix xs by) (omega (arith, length-plus_prefix xs by))
   each below false = below xs (omega arith)
 
 -- the number of 32 bits has no more
@@ -45,20 +45,20 @@ number_of-below l size each =
 
 -- the number of a sum of 32 bits each
 number_of-sum : (xs ys : List ℕ) → length xs ≡ 32 → length ys ≡ 32 → All IsBit xs → All IsBit ys
-    → number_of (plus_front xs ys) ≡ bit_xor (number_of xs) (number_of ys)
+    → number_of (plus_prefix xs ys) ≡ bit_xor (number_of xs) (number_of ys)
 number_of-sum xs ys size_xs size_ys all_xs all_ys =
     let a : ℕ = number_of xs in
     let b : ℕ = number_of ys in
     let below : bit_xor a b < 2 ^ 32 = xor_lt 32 a b (number_of-below xs size_xs all_xs) (number_of-below ys size_ys all_ys) in
-    ap (λ (l : List ℕ). number_of (plus_front l ys)) (sym (bits-number_of xs 32 size_xs all_xs))
-    ∙ ap (λ (l : List ℕ). number_of (plus_front (bits 32 a) l)) (sym (bits-number_of ys 32 size_ys all_ys))
-    ∙ ap number_of (plus_front-bits 32 a b)
+    ap (λ (l : List ℕ). number_of (plus_prefix l ys)) (sym (bits-number_of xs 32 size_xs all_xs))
+    ∙ ap (λ (l : List ℕ). number_of (plus_prefix (bits 32 a) l)) (sym (bits-number_of ys 32 size_ys all_ys))
+    ∙ ap number_of (plus_prefix-bits 32 a b)
     ∙ number_of-bits 32 (bit_xor a b)
     ∙ (let whole : bit_xor a b % 2 ^ 32 ≡ bit_xor a b = omega arith in whole)
 
 -- the number of what division leaves of a sum
 remainder-sum : (n : ℕ) (xs ys : List ℕ) → length xs ≡ n + 32 → length ys ≡ n + 32 → All IsBit xs → All IsBit ys
-    → number_of (remainder n (plus_front xs ys)) ≡ bit_xor (number_of (remainder n xs)) (number_of (remainder n ys))
+    → number_of (remainder n (plus_prefix xs ys)) ≡ bit_xor (number_of (remainder n xs)) (number_of (remainder n ys))
 remainder-sum n xs ys size_xs size_ys all_xs all_ys =
     ap number_of (divided_sum n xs ys size_xs size_ys all_xs all_ys)
     ∙ number_of-sum (remainder n xs) (remainder n ys)
@@ -67,11 +67,11 @@ remainder-sum n xs ys size_xs size_ys all_xs all_ys =
     (bits-remainder n xs all_xs) (bits-remainder n ys all_ys)
 
 -- a sum of bits, each with zeros after it
-padded-sum : (a b n m : ℕ) → plus_front (bits n a ++ replicate m 0) (bits n b ++ replicate m 0) ≡ bits n (bit_xor a b) ++ replicate m 0
+padded-sum : (a b n m : ℕ) → plus_prefix (bits n a ++ replicate m 0) (bits n b ++ replicate m 0) ≡ bits n (bit_xor a b) ++ replicate m 0
 padded-sum a b n m =
-    plus_front-append (bits n a) (bits n b) (replicate m 0) (replicate m 0) (length-bits n a ∙ sym (length-bits n b))
-    ∙ ap (λ (l : List ℕ). l ++ plus_front (replicate m 0) (replicate m 0)) (plus_front-bits n a b)
-    ∙ ap (λ (l : List ℕ). bits n (bit_xor a b) ++ l) (plus_front_self (replicate m 0) ∙ ap (λ (k : ℕ). replicate k 0) (length-replicate {A = ℕ} m 0))
+    plus_prefix-append (bits n a) (bits n b) (replicate m 0) (replicate m 0) (length-bits n a ∙ sym (length-bits n b))
+    ∙ ap (λ (l : List ℕ). l ++ plus_prefix (replicate m 0) (replicate m 0)) (plus_prefix-bits n a b)
+    ∙ ap (λ (l : List ℕ). bits n (bit_xor a b) ++ l) (plus_prefix_self (replicate m 0) ∙ ap (λ (k : ℕ). replicate k 0) (length-replicate {A = ℕ} m 0))
 
 -- what is left of the sum of two bytes
 pub byte_remainder-sum : (m a b : ℕ) → byte_remainder m (bit_xor a b) ≡ bit_xor (byte_remainder m a) (byte_remainder m b)
@@ -119,7 +119,7 @@ byte_more m byte =
     ap (λ (k : ℕ). number_of (remainder k (padded (m + 1) byte))) steps
     ∙ ap (λ (l : List ℕ). number_of (remainder (n + 8) l)) longer
     ∙ ap number_of (remainder_by_twice (bits 32 divisor) n 8 (padded m byte ++ replicate 8 0))
-    ∙ ap (λ (l : List ℕ). number_of (remainder 8 l)) (remainder_front n (padded m byte) (replicate 8 0) (omega (arith, length-padded m byte)))
+    ∙ ap (λ (l : List ℕ). number_of (remainder 8 l)) (remainder_prefix n (padded m byte) (replicate 8 0) (omega (arith, length-padded m byte)))
     ∙ ap (λ (l : List ℕ). number_of (remainder 8 (l ++ replicate 8 0))) (sym (bits-byte_remainder m byte))
 
 -- each term is the sum of those a - b, a - c and a places before it
@@ -135,14 +135,14 @@ xor_nine p q b r c m = same_from_bits _ _ (λ i. simp bit_at_xor (omega arith))
 Folds-doubled : (f : ℕ → ℕ) (a b c : ℕ) → Folds f a b c → Folds f (a + a) (b + b) (c + c)
 Folds-doubled f a b c folds m =
     let at : m + (a + a) ≡ m + a + a = omega arith in
-    let front : m + a + b ≡ m + b + a = omega arith in
+    let swapped : m + a + b ≡ m + b + a = omega arith in
     let middle : m + a + c ≡ m + c + a = omega arith in
     let cross : m + c + b ≡ m + b + c = omega arith in
     let twice_b : m + b + b ≡ m + (b + b) = omega arith in
     let twice_c : m + c + c ≡ m + (c + c) = omega arith in
     ap f at
     ∙ folds (m + a)
-    ∙ ap (λ (x : ℕ). bit_xor (bit_xor x (f (m + a + c))) (f (m + a))) (ap f front ∙ folds (m + b))
+    ∙ ap (λ (x : ℕ). bit_xor (bit_xor x (f (m + a + c))) (f (m + a))) (ap f swapped ∙ folds (m + b))
     ∙ ap (λ (x : ℕ). bit_xor (bit_xor (bit_xor (bit_xor (f (m + b + b)) (f (m + b + c))) (f (m + b))) x) (f (m + a)))
     (ap f middle ∙ folds (m + c) ∙ ap (λ (k : ℕ). bit_xor (bit_xor (f k) (f (m + c + c))) (f (m + c))) cross)
     ∙ ap (bit_xor (bit_xor (bit_xor (bit_xor (f (m + b + b)) (f (m + b + c))) (f (m + b))) (bit_xor (bit_xor (f (m + b + c)) (f (m + c + c))) (f (m + c)))))
@@ -157,7 +157,7 @@ three_left byte = bit_xor (bit_xor (byte_remainder 31 byte) (byte_remainder 4 by
 
 -- computed over all bytes: it is what is left with 32 of them
 all_left : map (byte_remainder 32) (range_with_len 0 256) ≡ map three_left (range_with_len 0 256)
-unfolding byte_remainder remainder_by plus_front bits three_left
+unfolding byte_remainder remainder_by plus_prefix bits three_left
 all_left = (bytes_eq-Decides _ _).0 refl
 
 -- the same of one byte

@@ -35,13 +35,13 @@ frame_written word rule cpr main ied check blank id_put ied_put cpr_put main_put
     let all_there : take 2064 whole ≡ head ++ main ++ check = put_part (head ++ main) check main_put whole 2060 2064 put_check main_there (omega arith) in
     let whole_is : whole ≡ head ++ main ++ check = sym (take_all 2064 whole (omega arith)) ∙ all_there in
     let from_head : whole ≡ head ++ (main ++ check) = whole_is ∙ append_assoc head main check in
-    let front : take 12 whole ≡ head = ap (λ (l : List ℕ). take 12 l) from_head ∙ take_at head (main ++ check) 12 head_size in
+    let starts : take 12 whole ≡ head = ap (λ (l : List ℕ). take 12 l) from_head ∙ take_at head (main ++ check) 12 head_size in
     let middle : take 2048 (drop 12 whole) ≡ main =
     ap (λ (l : List ℕ). take 2048 (drop 12 l)) from_head ∙ ap (λ (l : List ℕ). take 2048 l) (drop_at head (main ++ check) 12 head_size) ∙ take_at main check 2048 size in
     let end : drop 2048 (drop 12 whole) ≡ check =
     drop-drop 2048 12 whole ∙ ap (λ (l : List ℕ). drop 2060 l) whole_is ∙ drop_at (head ++ main) check 2060 (omega (arith, length-append head main)) in
     let head_is : head ≡ frame_head word cpr = ap (λ (l : List ℕ). id ++ l ++ cpr) ied_is in
-    ap₂ (λ (h l : List ℕ). h ++ l) front
+    ap₂ (λ (h l : List ℕ). h ++ l) starts
     (ap₂ (λ (m t : List ℕ). m ++ t) (scrambled_is ∙ ap (masked word rule) middle) (end ∙ check_is ∙ ap edc_of main_there))
     ∙ sym (append_assoc head (masked word rule main) (edc_of (head ++ main)))
     ∙ ap (λ (h : List ℕ). h ++ masked word rule main ++ edc_of (h ++ main)) head_is

@@ -137,11 +137,11 @@ ied_found word first second byte_first byte_second codeword =
         (encoded_once 6 2 id (id ++ a ∷ b ∷ []) (id ++ first ∷ second ∷ []) (omega arith) (omega arith) encoded_other encoded_first)
 
 -- the last two of six bytes come after the first four
-pub last_two : (six front : List ℕ) → length six ≡ 6 → take 4 six ≡ front → six ≡ front ++ get_or six 4 0 ∷ get_or six 5 0 ∷ []
-last_two six front size begins =
+pub last_two : (six prefix : List ℕ) → length six ≡ 6 → take 4 six ≡ prefix → six ≡ prefix ++ get_or six 4 0 ∷ get_or six 5 0 ∷ []
+last_two six prefix size begins =
     sym (take-append-drop 4 six)
     ∙ ap (λ (l : List ℕ). l ++ drop 4 six) begins
-    ∙ ap (λ (l : List ℕ). front ++ l) (drop_more six 4 0 (omega arith) ∙ ap (λ (l : List ℕ). get_or six 4 0 ∷ l)
+    ∙ ap (λ (l : List ℕ). prefix ++ l) (drop_more six 4 0 (omega arith) ∙ ap (λ (l : List ℕ). get_or six 4 0 ∷ l)
     (drop_more six 5 0 (omega arith) ∙ ap (λ (l : List ℕ). get_or six 5 0 ∷ l) (drop_all 6 six (omega arith))))
 
 -- an answer that is true exactly for codewords is the test

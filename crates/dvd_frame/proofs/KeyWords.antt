@@ -6,7 +6,7 @@ use Rattle.std.specs.Int.Bits.{xor_shr, xor_mod}
 use Rattle.std.proofs.lemmas.Nat.{be_bytes_8}
 use Rattle.std.proofs.lemmas.List.{get_or-drop, get_or-take, length-drop, length-take-le, take_all, take-take, drop-take}
 use Rattle.std.proofs.lemmas.Grind.{same_number_lists}
-use Rattle.coding.specs.BitDivision.{plus_front}
+use Rattle.coding.specs.BitDivision.{plus_prefix}
 use Rattle.dvd_frame.specs.Inner.Registers.{keys_from}
 use Rattle.coding.specs.Bits.{bits}
 use Rattle.dvd_frame.specs.Scrambling.{scrambling_byte, sequence, window}
@@ -19,7 +19,7 @@ unfolding keys_from terms
 length-keys preset k n = length-terms (scrambling_byte preset) k n
 
 -- keys are sums of others, at the distances of any rule that scrambling bytes follow
-keys_sum : (preset a b k n : ℕ) → Recurs (scrambling_byte preset) a b → keys_from preset (k + a) n ≡ plus_front (keys_from preset k n) (keys_from preset (k + b) n)
+keys_sum : (preset a b k n : ℕ) → Recurs (scrambling_byte preset) a b → keys_from preset (k + a) n ≡ plus_prefix (keys_from preset k n) (keys_from preset (k + b) n)
 unfolding keys_from terms
 keys_sum preset a b k n recurs = terms_sum (scrambling_byte preset) a b k n recurs
 
@@ -59,8 +59,8 @@ byte_sum j a b p q is_p is_q =
 bytes_summed : (word next near far : ℕ) → word < 2 ^ 64 → next < 2 ^ 64
     → near ≡ (word * 2 ^ 64 + next) * 2 ^ 8 % 2 ^ 128 / 2 ^ 64 → far ≡ (word * 2 ^ 64 + next) * 2 ^ 40 % 2 ^ 128 / 2 ^ 64
     → to_be_bytes w64 (bit_xor near far)
-    ≡ plus_front (take 8 (drop 1 (to_be_bytes w64 word ++ to_be_bytes w64 next))) (take 8 (drop 5 (to_be_bytes w64 word ++ to_be_bytes w64 next)))
-unfolding plus_front
+    ≡ plus_prefix (take 8 (drop 1 (to_be_bytes w64 word ++ to_be_bytes w64 next))) (take 8 (drop 5 (to_be_bytes w64 word ++ to_be_bytes w64 next)))
+unfolding plus_prefix
 bytes_summed word next near far fits_word fits_next is_near is_far =
     ap₂ ◌∷◌ (byte_sum 56 near far (word / 2 ^ 48 % 256) (word / 2 ^ 16 % 256) (omega arith) (omega arith))
     (ap₂ ◌∷◌ (byte_sum 48 near far (word / 2 ^ 40 % 256) (word / 2 ^ 8 % 256) (omega arith) (omega arith))
@@ -86,10 +86,10 @@ word_follows preset k word next near far fits_word fits_next is_near is_far is_w
     let far_on : k + 16 ≡ k + 1 + 15 = omega arith in
     let near_on : k + 1 + 4 ≡ k + 5 = omega arith in
     bytes_summed word next near far fits_word fits_next is_near is_far
-    ∙ ap₂ (λ (a b : List ℕ). plus_front (take 8 (drop 1 (a ++ b))) (take 8 (drop 5 (a ++ b)))) is_word is_next
-    ∙ ap (λ (l : List ℕ). plus_front (take 8 (drop 1 l)) (take 8 (drop 5 l))) (keys_append preset k 8 8)
-    ∙ ap₂ plus_front (keys_part preset k 16 1 8 (omega arith)) (keys_part preset k 16 5 8 (omega arith))
-    ∙ ap (λ (j : ℕ). plus_front (keys_from preset (k + 1) 8) (keys_from preset j 8)) (sym near_on)
+    ∙ ap₂ (λ (a b : List ℕ). plus_prefix (take 8 (drop 1 (a ++ b))) (take 8 (drop 5 (a ++ b)))) is_word is_next
+    ∙ ap (λ (l : List ℕ). plus_prefix (take 8 (drop 1 l)) (take 8 (drop 5 l))) (keys_append preset k 8 8)
+    ∙ ap₂ plus_prefix (keys_part preset k 16 1 8 (omega arith)) (keys_part preset k 16 5 8 (omega arith))
+    ∙ ap (λ (j : ℕ). plus_prefix (keys_from preset (k + 1) 8) (keys_from preset j 8)) (sym near_on)
     ∙ sym (keys_sum preset 15 4 (k + 1) 8 (bytes_recur preset)) ∙ ap (λ (j : ℕ). keys_from preset j 8) (sym far_on)
 
 -- a list of eight that has the keys
@@ -163,9 +163,9 @@ keys_within preset at a n keys made within =
 
 -- the vector after the keys that were made, of two that are among them
 pub vector_follows : (preset at far near : ℕ) (keys : List ℕ) → far + 240 ≡ at → near + 176 ≡ at → take at keys ≡ keys_from preset 0 at
-    → plus_front (take 32 (drop far keys)) (take 32 (drop near keys)) ≡ keys_from preset at 32
+    → plus_prefix (take 32 (drop far keys)) (take 32 (drop near keys)) ≡ keys_from preset at 32
 vector_follows preset at far near keys is_far is_near made =
     let between : near ≡ far + 64 = omega arith in
-    ap₂ plus_front (keys_within preset at far 32 keys made (omega arith)) (keys_within preset at near 32 keys made (omega arith))
-    ∙ ap (λ (j : ℕ). plus_front (keys_from preset far 32) (keys_from preset j 32)) between
+    ap₂ plus_prefix (keys_within preset at far 32 keys made (omega arith)) (keys_within preset at near 32 keys made (omega arith))
+    ∙ ap (λ (j : ℕ). plus_prefix (keys_from preset far 32) (keys_from preset j 32)) between
     ∙ sym (keys_sum preset 240 64 far 32 (bytes_recur_by_vectors preset)) ∙ ap (λ (j : ℕ). keys_from preset j 32) is_far

@@ -48,22 +48,22 @@ masked_twice word rule main =
         ∙ ap (λ (b : ℕ). bit_xor b m) (get_or-masked word rule main k below) ∙ xor_assoc byte m m ∙ ap (bit_xor byte) (xor_self m) ∙ xor_zero_r byte
 
 -- the first bytes combined with the sequence, and the others as they were
-pub masked_parts : (word : ℕ) (rule : Rule) (main front : List ℕ) (count : ℕ) → count ≡ scrambled_count rule → count ≤ length main → length front ≡ count
-    → ((k : ℕ) → k < count → get_or front k 0 ≡ bit_xor (get_or (take count main) k 0) (scrambling_byte (preset_of word) k))
-    → front ++ drop count main ≡ masked word rule main
-masked_parts word rule main front count is within size combined =
-    same_number_lists (front ++ drop count main) (masked word rule main)
-    (omega (arith, length-append front (drop count main), length-drop count main, length-masked word rule main))
-    (λ k below. each k (omega (arith, length-append front (drop count main), length-drop count main)))
+pub masked_parts : (word : ℕ) (rule : Rule) (main prefix : List ℕ) (count : ℕ) → count ≡ scrambled_count rule → count ≤ length main → length prefix ≡ count
+    → ((k : ℕ) → k < count → get_or prefix k 0 ≡ bit_xor (get_or (take count main) k 0) (scrambling_byte (preset_of word) k))
+    → prefix ++ drop count main ≡ masked word rule main
+masked_parts word rule main prefix count is within size combined =
+    same_number_lists (prefix ++ drop count main) (masked word rule main)
+    (omega (arith, length-append prefix (drop count main), length-drop count main, length-masked word rule main))
+    (λ k below. each k (omega (arith, length-append prefix (drop count main), length-drop count main)))
   where
-    each : (k : ℕ) → k < length main → get_or (front ++ drop count main) k 0 ≡ get_or (masked word rule main) k 0
+    each : (k : ℕ) → k < length main → get_or (prefix ++ drop count main) k 0 ≡ get_or (masked word rule main) k 0
     each k below = elim (cases_lt k count) [
-      | inl inside ↦ get_or_append_left front (drop count main) 0 k (omega arith) ∙ combined k inside
+      | inl inside ↦ get_or_append_left prefix (drop count main) 0 k (omega arith) ∙ combined k inside
           ∙ ap (λ (b : ℕ). bit_xor b (scrambling_byte (preset_of word) k)) (get_or-take count main k 0 inside)
           ∙ sym (get_or-masked word rule main k below ∙ ap (bit_xor (get_or main k 0)) (mask_within word rule k (omega arith)))
       | inr past ↦
           let place : count + (k - count) ≡ k = omega arith in
-          get_or-append_right front (drop count main) count k 0 size past
+          get_or-append_right prefix (drop count main) count k 0 size past
           ∙ get_or-drop count main (k - count) 0 ∙ ap (λ (x : ℕ). get_or main x 0) place
           ∙ sym (get_or-masked word rule main k below ∙ ap (bit_xor (get_or main k 0)) (mask_past word rule k (omega arith)) ∙ xor_zero_r (get_or main k 0))
     ]

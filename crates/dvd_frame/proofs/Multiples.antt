@@ -8,8 +8,8 @@ use Rattle.std.proofs.lemmas.List.Elements.{All-append, All-cons, All-nil, All-r
 use Rattle.std.proofs.lemmas.List.Sums.{fold-append}
 use Rattle.std.proofs.lemmas.Nat.{xor_comm, xor_lt}
 use Rattle.std.proofs.lemmas.Nat.Bits.{bit_at-lt}
-use Rattle.coding.specs.BitDivision.{plus_front, remainder_by}
-use Rattle.gf_field.proofs.BitDivision.{length-plus_front}
+use Rattle.coding.specs.BitDivision.{plus_prefix, remainder_by}
+use Rattle.gf_field.proofs.BitDivision.{length-plus_prefix}
 use Rattle.coding.specs.Bits.{bits, bits_of, number_of}
 use Rattle.dvd_frame.specs.Edc.{remainder, divisor, edc_of}
 use Rattle.dvd_frame.specs.Id.{word_bytes}
@@ -20,43 +20,43 @@ abbrev pub IsBit : ℕ → Type 0
 IsBit b = b < 2
 
 -- bits added to bits are bits
-pub bits-plus_front : (xs ys : List ℕ) → All IsBit xs → All IsBit ys → All IsBit (plus_front xs ys)
-unfolding plus_front
-bits-plus_front xs [] first second = first
-bits-plus_front [] (y ∷ ys) first second = All-nil IsBit
-bits-plus_front (x ∷ xs) (y ∷ ys) first second =
-    All-cons IsBit (bit_xor x y) (plus_front xs ys) (xor_lt 1 x y (first 0 x (omega arith)) (second 0 y (omega arith)))
-    (bits-plus_front xs ys (All-tail IsBit x xs first) (All-tail IsBit y ys second))
+pub bits-plus_prefix : (xs ys : List ℕ) → All IsBit xs → All IsBit ys → All IsBit (plus_prefix xs ys)
+unfolding plus_prefix
+bits-plus_prefix xs [] first second = first
+bits-plus_prefix [] (y ∷ ys) first second = All-nil IsBit
+bits-plus_prefix (x ∷ xs) (y ∷ ys) first second =
+    All-cons IsBit (bit_xor x y) (plus_prefix xs ys) (xor_lt 1 x y (first 0 x (omega arith)) (second 0 y (omega arith)))
+    (bits-plus_prefix xs ys (All-tail IsBit x xs first) (All-tail IsBit y ys second))
 
 -- two additions in the other order
-pub plus_front_swap : (rest a b : List ℕ) → plus_front (plus_front rest a) b ≡ plus_front (plus_front rest b) a
-unfolding plus_front
-plus_front_swap rest [] b = refl
-plus_front_swap rest (y ∷ a) [] = refl
-plus_front_swap [] (y ∷ a) (z ∷ b) = refl
-plus_front_swap (x ∷ rest) (y ∷ a) (z ∷ b) =
-    ap (λ (bit : ℕ). bit ∷ plus_front (plus_front rest a) b) (xor_assoc x y z ∙ ap (bit_xor x) (xor_comm y z) ∙ sym (xor_assoc x z y))
-    ∙ ap (λ (l : List ℕ). bit_xor (bit_xor x z) y ∷ l) (plus_front_swap rest a b)
+pub plus_prefix_swap : (rest a b : List ℕ) → plus_prefix (plus_prefix rest a) b ≡ plus_prefix (plus_prefix rest b) a
+unfolding plus_prefix
+plus_prefix_swap rest [] b = refl
+plus_prefix_swap rest (y ∷ a) [] = refl
+plus_prefix_swap [] (y ∷ a) (z ∷ b) = refl
+plus_prefix_swap (x ∷ rest) (y ∷ a) (z ∷ b) =
+    ap (λ (bit : ℕ). bit ∷ plus_prefix (plus_prefix rest a) b) (xor_assoc x y z ∙ ap (bit_xor x) (xor_comm y z) ∙ sym (xor_assoc x z y))
+    ∙ ap (λ (l : List ℕ). bit_xor (bit_xor x z) y ∷ l) (plus_prefix_swap rest a b)
 
 -- a list and itself add up to zeros
-pub plus_front_self : (xs : List ℕ) → plus_front xs xs ≡ replicate (length xs) 0
-unfolding plus_front
-plus_front_self [] = refl
-plus_front_self (x ∷ xs) = ap (λ (b : ℕ). b ∷ plus_front xs xs) (xor_self x) ∙ ap (λ (l : List ℕ). 0 ∷ l) (plus_front_self xs)
+pub plus_prefix_self : (xs : List ℕ) → plus_prefix xs xs ≡ replicate (length xs) 0
+unfolding plus_prefix
+plus_prefix_self [] = refl
+plus_prefix_self (x ∷ xs) = ap (λ (b : ℕ). b ∷ plus_prefix xs xs) (xor_self x) ∙ ap (λ (l : List ℕ). 0 ∷ l) (plus_prefix_self xs)
 
 -- a list added to zeros of its length is that list
-pub zeros_plus : (tail : List ℕ) → plus_front (replicate (length tail) 0) tail ≡ tail
-unfolding plus_front
+pub zeros_plus : (tail : List ℕ) → plus_prefix (replicate (length tail) 0) tail ≡ tail
+unfolding plus_prefix
 zeros_plus [] = refl
 zeros_plus (x ∷ tail) =
-    ap (λ (b : ℕ). b ∷ plus_front (replicate (length tail) 0) tail) (xor_zero_l x) ∙ ap (λ (l : List ℕ). x ∷ l) (zeros_plus tail)
+    ap (λ (b : ℕ). b ∷ plus_prefix (replicate (length tail) 0) tail) (xor_zero_l x) ∙ ap (λ (l : List ℕ). x ∷ l) (zeros_plus tail)
 
 -- what follows a list, added to zeros that follow it
-plus_behind : (xs tail : List ℕ) → plus_front (xs ++ replicate (length tail) 0) (replicate (length xs) 0 ++ tail) ≡ xs ++ tail
-unfolding plus_front
+plus_behind : (xs tail : List ℕ) → plus_prefix (xs ++ replicate (length tail) 0) (replicate (length xs) 0 ++ tail) ≡ xs ++ tail
+unfolding plus_prefix
 plus_behind [] tail = zeros_plus tail
 plus_behind (x ∷ xs) tail =
-    ap (λ (b : ℕ). b ∷ plus_front (xs ++ replicate (length tail) 0) (replicate (length xs) 0 ++ tail)) (xor_zero_r x)
+    ap (λ (b : ℕ). b ∷ plus_prefix (xs ++ replicate (length tail) 0) (replicate (length xs) 0 ++ tail)) (xor_zero_r x)
     ∙ ap (λ (l : List ℕ). x ∷ l) (plus_behind xs tail)
 
 -- each step of the division takes one bit away
@@ -66,10 +66,10 @@ length-remainder zero ys within = omega arith
 length-remainder (suc n) [] within = absurd (omega arith)
 length-remainder (suc n) (y ∷ ys) within = each (λ zs long. length-remainder n zs long) (eqb y 1) where
   each : ((zs : List ℕ) → n ≤ length zs → length (remainder n zs) + n ≡ length zs) → (taken : Bool)
-      → length (remainder n (cond taken (plus_front ys (bits 32 divisor)) ys)) + suc n ≡ suc (length ys)
+      → length (remainder n (cond taken (plus_prefix ys (bits 32 divisor)) ys)) + suc n ≡ suc (length ys)
   each below true =
-      let size : length (plus_front ys (bits 32 divisor)) ≡ length ys = length-plus_front ys (bits 32 divisor) in
-      omega (arith, below (plus_front ys (bits 32 divisor)) (omega (arith, size)), size)
+      let size : length (plus_prefix ys (bits 32 divisor)) ≡ length ys = length-plus_prefix ys (bits 32 divisor) in
+      omega (arith, below (plus_prefix ys (bits 32 divisor)) (omega (arith, size)), size)
   each below false = omega (arith, below ys (omega arith))
 
 -- the bits of a number are bits
@@ -87,17 +87,17 @@ bits-remainder (suc n) (y ∷ ys) each = either (λ zs all. bits-remainder n zs 
   tail : All IsBit ys
   tail = All-tail IsBit y ys each
 
-  either : ((zs : List ℕ) → All IsBit zs → All IsBit (remainder n zs)) → (taken : Bool) → All IsBit (remainder n (cond taken (plus_front ys (bits 32 divisor)) ys))
-  either below true = below (plus_front ys (bits 32 divisor)) (bits-plus_front ys (bits 32 divisor) tail (bits-bits 32 divisor))
+  either : ((zs : List ℕ) → All IsBit zs → All IsBit (remainder n zs)) → (taken : Bool) → All IsBit (remainder n (cond taken (plus_prefix ys (bits 32 divisor)) ys))
+  either below true = below (plus_prefix ys (bits 32 divisor)) (bits-plus_prefix ys (bits 32 divisor) tail (bits-bits 32 divisor))
   either below false = below ys tail
 
 -- what is added after the places that the division takes is added to what it leaves
-remainder_behind : (n : ℕ) (ys tail : List ℕ) → n ≤ length ys → remainder n (plus_front ys (replicate n 0 ++ tail)) ≡ plus_front (remainder n ys) tail
-unfolding remainder_by plus_front
+remainder_behind : (n : ℕ) (ys tail : List ℕ) → n ≤ length ys → remainder n (plus_prefix ys (replicate n 0 ++ tail)) ≡ plus_prefix (remainder n ys) tail
+unfolding remainder_by plus_prefix
 remainder_behind zero ys tail within = refl
 remainder_behind (suc n) [] tail within = absurd (omega arith)
 remainder_behind (suc n) (y ∷ ys) tail within =
-    ap (λ (b : ℕ). remainder (suc n) (b ∷ plus_front ys added)) (xor_zero_r y) ∙ each (λ zs long. remainder_behind n zs tail long) (eqb y 1)
+    ap (λ (b : ℕ). remainder (suc n) (b ∷ plus_prefix ys added)) (xor_zero_r y) ∙ each (λ zs long. remainder_behind n zs tail long) (eqb y 1)
   where
     added : List ℕ
     added = replicate n 0 ++ tail
@@ -105,9 +105,9 @@ remainder_behind (suc n) (y ∷ ys) tail within =
     by : List ℕ
     by = bits 32 divisor
 
-    each : ((zs : List ℕ) → n ≤ length zs → remainder n (plus_front zs added) ≡ plus_front (remainder n zs) tail) → (taken : Bool)
-        → remainder n (cond taken (plus_front (plus_front ys added) by) (plus_front ys added)) ≡ plus_front (remainder n (cond taken (plus_front ys by) ys)) tail
-    each below true = ap (remainder n) (plus_front_swap ys added by) ∙ below (plus_front ys by) (omega (arith, length-plus_front ys by))
+    each : ((zs : List ℕ) → n ≤ length zs → remainder n (plus_prefix zs added) ≡ plus_prefix (remainder n zs) tail) → (taken : Bool)
+        → remainder n (cond taken (plus_prefix (plus_prefix ys added) by) (plus_prefix ys added)) ≡ plus_prefix (remainder n (cond taken (plus_prefix ys by) ys)) tail
+    each below true = ap (remainder n) (plus_prefix_swap ys added by) ∙ below (plus_prefix ys by) (omega (arith, length-plus_prefix ys by))
     each below false = below ys (omega arith)
 
 -- the bits of a number to which bits were read after a start: those of the start, and the bits read
@@ -118,7 +118,7 @@ bits-fold (b ∷ l) k start each =
     let more : k + suc (length l) ≡ suc k + length l = omega arith in
     ap (λ (n : ℕ). bits n (fold (λ (a x : ℕ). 2 * a + x) (2 * start + b) l)) more
     ∙ bits-fold l (suc k) (2 * start + b) (All-tail IsBit b l each)
-    ∙ ap (λ (front : List ℕ). front ++ l) (bits_more k start b (each 0 b (omega arith)))
+    ∙ ap (λ (prefix : List ℕ). prefix ++ l) (bits_more k start b (each 0 b (omega arith)))
     ∙ append_assoc (bits k start) (b ∷ []) l
 
 -- bits are those of the number that they make, as many as there are
@@ -180,16 +180,16 @@ pub edc_leaves_zero : (message : List ℕ) → remainder (8 * length message) (b
 unfolding edc_of
 edc_leaves_zero message =
     let n : ℕ = 8 * length message in
-    let front : List ℕ = bits_of message in
-    let whole : List ℕ = front ++ replicate 32 0 in
+    let prefix : List ℕ = bits_of message in
+    let whole : List ℕ = prefix ++ replicate 32 0 in
     let rest : List ℕ = remainder n whole in
-    let front_size : length front ≡ n = length-bits_of message in
-    let long : n ≤ length whole = omega (arith, length-append front (replicate 32 0), front_size) in
-    let size : length rest ≡ 32 = omega (arith, length-remainder n whole long, length-append front (replicate 32 0), length-replicate {A = ℕ} 32 0, front_size) in
-    let each : All IsBit rest = bits-remainder n whole (All-append IsBit front (replicate 32 0) (bits-bits_of message) (All-replicate IsBit 32 0 (omega arith))) in
+    let prefix_size : length prefix ≡ n = length-bits_of message in
+    let long : n ≤ length whole = omega (arith, length-append prefix (replicate 32 0), prefix_size) in
+    let size : length rest ≡ 32 = omega (arith, length-remainder n whole long, length-append prefix (replicate 32 0), length-replicate {A = ℕ} 32 0, prefix_size) in
+    let each : All IsBit rest = bits-remainder n whole (All-append IsBit prefix (replicate 32 0) (bits-bits_of message) (All-replicate IsBit 32 0 (omega arith))) in
     let check : bits_of (edc_of message) ≡ rest = bits_of-word_bytes (number_of rest) ∙ bits-number_of rest 32 size each in
-    ap (remainder n) (bits_of-append message (edc_of message) ∙ ap (λ (l : List ℕ). front ++ l) check ∙ sym (plus_behind front rest))
-    ∙ ap (λ (k : ℕ). remainder n (plus_front (front ++ replicate k 0) (replicate (length front) 0 ++ rest))) size
-    ∙ ap (λ (k : ℕ). remainder n (plus_front whole (replicate k 0 ++ rest))) front_size
+    ap (remainder n) (bits_of-append message (edc_of message) ∙ ap (λ (l : List ℕ). prefix ++ l) check ∙ sym (plus_behind prefix rest))
+    ∙ ap (λ (k : ℕ). remainder n (plus_prefix (prefix ++ replicate k 0) (replicate (length prefix) 0 ++ rest))) size
+    ∙ ap (λ (k : ℕ). remainder n (plus_prefix whole (replicate k 0 ++ rest))) prefix_size
     ∙ remainder_behind n whole rest long
-    ∙ plus_front_self rest ∙ ap (λ (k : ℕ). replicate k 0) size
+    ∙ plus_prefix_self rest ∙ ap (λ (k : ℕ). replicate k 0) size

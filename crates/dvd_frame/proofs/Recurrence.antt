@@ -8,10 +8,10 @@ use Rattle.std.proofs.lemmas.List.Elements.{All-nil, All-cons, All-append, All-d
 use Rattle.std.proofs.lemmas.List.FromFn.{length-map-range_with_len, get_or-map-range_with_len}
 use Rattle.std.proofs.lemmas.Grind.{same_number_lists}
 use Rattle.std.proofs.lemmas.Nat.{xor_lt}
-use Rattle.coding.specs.BitDivision.{plus_front}
+use Rattle.coding.specs.BitDivision.{plus_prefix}
 use Rattle.coding.specs.Bits.{bits, number_of}
 use Rattle.dvd_frame.specs.Scrambling.{sequence, scrambling_byte}
-use Rattle.dvd_frame.proofs.BitLists.{plus_front-bits, number_of-bits}
+use Rattle.dvd_frame.proofs.BitLists.{plus_prefix-bits, number_of-bits}
 use Rattle.dvd_frame.proofs.Multiples.{IsBit, bits-bits, bits-number_of}
 use Rattle.dvd_frame.proofs.Sequences.{length-sequence}
 
@@ -93,15 +93,15 @@ unfolding terms
 get_or-terms f j n i below = get_or-map-range_with_len f j n i (j + i) 0 below refl
 
 -- terms far enough on are sums of others
-pub terms_sum : (f : ℕ → ℕ) (a b j n : ℕ) → Recurs f a b → terms f (j + a) n ≡ plus_front (terms f j n) (terms f (j + b) n)
-unfolding terms plus_front
+pub terms_sum : (f : ℕ → ℕ) (a b j n : ℕ) → Recurs f a b → terms f (j + a) n ≡ plus_prefix (terms f j n) (terms f (j + b) n)
+unfolding terms plus_prefix
 terms_sum f a b j zero recurs = refl
 terms_sum f a b j (suc n) recurs =
     let far : j + a + 1 ≡ j + 1 + a = omega arith in
     let near : j + 1 + b ≡ j + b + 1 = omega arith in
     ap (λ (x : ℕ). x ∷ terms f (j + a + 1) n) (recurs j)
     ∙ ap (λ (l : List ℕ). bit_xor (f j) (f (j + b)) ∷ l)
-    (ap (λ (k : ℕ). terms f k n) far ∙ terms_sum f a b (j + 1) n recurs ∙ ap (λ (k : ℕ). plus_front (terms f (j + 1) n) (terms f k n)) near)
+    (ap (λ (k : ℕ). terms f k n) far ∙ terms_sum f a b (j + 1) n recurs ∙ ap (λ (k : ℕ). plus_prefix (terms f (j + 1) n) (terms f k n)) near)
 
 -- the end of the sequence
 sequence_end : (preset m j n : ℕ) → j + n ≡ 15 + m → drop j (sequence preset m) ≡ terms (bit_of preset) j n
@@ -153,10 +153,10 @@ bytes_recur preset k =
     sym (byte_value preset (k + 15))
     ∙ ap (λ (j : ℕ). number_of (terms f j 8)) far
     ∙ ap number_of (terms_sum f 120 32 (8 * k + 7) 8 (bits_recur_by_bytes preset)
-    ∙ ap (λ (j : ℕ). plus_front (terms f (8 * k + 7) 8) (terms f j 8)) near
-    ∙ ap (λ (l : List ℕ). plus_front l (terms f (8 * (k + 4) + 7) 8)) (sym (byte_bits preset k))
-    ∙ ap (plus_front (bits 8 a)) (sym (byte_bits preset (k + 4)))
-    ∙ plus_front-bits 8 a b)
+    ∙ ap (λ (j : ℕ). plus_prefix (terms f (8 * k + 7) 8) (terms f j 8)) near
+    ∙ ap (λ (l : List ℕ). plus_prefix l (terms f (8 * (k + 4) + 7) 8)) (sym (byte_bits preset k))
+    ∙ ap (plus_prefix (bits 8 a)) (sym (byte_bits preset (k + 4)))
+    ∙ plus_prefix-bits 8 a b)
     ∙ number_of-bits 8 (bit_xor a b) ∙ mod-eq_of_lt fits
 
 -- and bytes, like bits, at distances sixteen times as long

@@ -2,10 +2,10 @@
 use Rattle.std.proofs.Common.{◌≡◌, ℕ, zero, suc, ◌+◌, ◌*◌, ◌/◌, ◌%◌, ◌^◌, ◌≤◌, List, [], ◌∷◌, ◌++◌, length, get_or, take, drop, refl, sym, ◌∙◌, ap, arith}
 use Rattle.std.specs.Prelude.{bit_xor}
 use Rattle.std.proofs.lemmas.List.{length_push, get_or-drop, drop-append-le, drop-drop, take_at}
-use Rattle.coding.specs.BitDivision.{plus_front}
+use Rattle.coding.specs.BitDivision.{plus_prefix}
 use Rattle.coding.specs.Bits.{bits, number_of}
 use Rattle.dvd_frame.specs.Scrambling.{sequence, scrambling_byte, window}
-use Rattle.dvd_frame.proofs.BitLists.{length-bits, bits-mod, bits-split, plus_front-bits, number_of-bits}
+use Rattle.dvd_frame.proofs.BitLists.{length-bits, bits-mod, bits-split, plus_prefix-bits, number_of-bits}
 
 -- the first 15 + n bits are as many
 pub length-sequence : (preset n : ℕ) → length (sequence preset n) ≡ 15 + n
@@ -58,8 +58,8 @@ window_moves preset k =
     ∙ ap moved (sequence_moves preset n (n + 1) (omega arith))))))))
 
 -- of 15 bits the last seven, and after them the sums of the first eight with those four places further on
-bits_moved : (register : ℕ) → moved_by_byte (bits 15 register) ≡ bits 7 register ++ plus_front (take 8 (bits 15 register)) (take 8 (bits 11 register))
-unfolding moved_by_byte moved bits plus_front
+bits_moved : (register : ℕ) → moved_by_byte (bits 15 register) ≡ bits 7 register ++ plus_prefix (take 8 (bits 15 register)) (take 8 (bits 11 register))
+unfolding moved_by_byte moved bits plus_prefix
 bits_moved register = refl
 
 -- the upper eight of the lowest 8 + m bits
@@ -76,9 +76,9 @@ register_moved register next is =
     let lower : next % 2 ^ 8 ≡ sums % 2 ^ 8 = omega (arith, is) in
     bits-split 7 8 next
     ∙ ap (λ (l : List ℕ). l ++ bits 8 next) (ap (bits 7) upper ∙ bits-mod 7 register)
-    ∙ ap (λ (l : List ℕ). bits 7 register ++ l) (sym (bits-mod 8 next) ∙ ap (bits 8) lower ∙ bits-mod 8 sums ∙ sym (plus_front-bits 8 (register / 2 ^ 7) (register / 2 ^ 3)))
-    ∙ ap (λ (l : List ℕ). bits 7 register ++ plus_front l (bits 8 (register / 2 ^ 3))) (sym (upper_bits 7 register))
-    ∙ ap (λ (l : List ℕ). bits 7 register ++ plus_front (take 8 (bits 15 register)) l) (sym (upper_bits 3 register))
+    ∙ ap (λ (l : List ℕ). bits 7 register ++ l) (sym (bits-mod 8 next) ∙ ap (bits 8) lower ∙ bits-mod 8 sums ∙ sym (plus_prefix-bits 8 (register / 2 ^ 7) (register / 2 ^ 3)))
+    ∙ ap (λ (l : List ℕ). bits 7 register ++ plus_prefix l (bits 8 (register / 2 ^ 3))) (sym (upper_bits 7 register))
+    ∙ ap (λ (l : List ℕ). bits 7 register ++ plus_prefix (take 8 (bits 15 register)) l) (sym (upper_bits 3 register))
     ∙ sym (bits_moved register)
 
 -- a register that shows the window at byte k shows the next once it has moved by a byte

@@ -6,20 +6,20 @@ use Rattle.std.specs.List.{concat}
 use Rattle.std.specs.Simd.{first_chunks}
 use Rattle.std.proofs.lemmas.List.{length-append, length-replicate, append_assoc, drop-drop, take-append-drop}
 use Rattle.std.proofs.lemmas.List.Elements.{All-append, All-replicate, All-tail}
-use Rattle.coding.specs.BitDivision.{plus_front, remainder_by}
-use Rattle.gf_field.proofs.BitDivision.{length-plus_front, plus_front_twice, remainder_by_twice}
+use Rattle.coding.specs.BitDivision.{plus_prefix, remainder_by}
+use Rattle.gf_field.proofs.BitDivision.{length-plus_prefix, plus_prefix_twice, remainder_by_twice}
 use Rattle.coding.specs.Bits.{bits, bits_of}
 use Rattle.dvd_frame.specs.Edc.{remainder, divisor}
 use Rattle.dvd_frame.specs.Inner.Registers.{divided_from, byte_remainder}
 use Rattle.dvd_frame.specs.Id.{word_bytes}
-use Rattle.dvd_frame.proofs.BitLists.{length-bits, plus_front-bits}
-use Rattle.dvd_frame.proofs.Division.{plus_front-append, plus_front_none, front_divided, padded, length-padded, bits-padded, bits-byte_remainder}
-use Rattle.dvd_frame.proofs.Multiples.{IsBit, bits-plus_front, plus_front_swap, plus_front_self, zeros_plus, bits-bits, bits-bits_of, length-bits_of, bits_of-append, bits_of-word_bytes}
+use Rattle.dvd_frame.proofs.BitLists.{length-bits, plus_prefix-bits}
+use Rattle.dvd_frame.proofs.Division.{plus_prefix-append, plus_prefix_none, prefix_divided, padded, length-padded, bits-padded, bits-byte_remainder}
+use Rattle.dvd_frame.proofs.Multiples.{IsBit, bits-plus_prefix, plus_prefix_swap, plus_prefix_self, zeros_plus, bits-bits, bits-bits_of, length-bits_of, bits_of-append, bits_of-word_bytes}
 
 -- division takes a sum apart
 pub divided_sum : (n : ℕ) (xs ys : List ℕ) → length xs ≡ n + 32 → length ys ≡ n + 32 → All IsBit xs → All IsBit ys
-    → remainder n (plus_front xs ys) ≡ plus_front (remainder n xs) (remainder n ys)
-unfolding remainder_by plus_front bits
+    → remainder n (plus_prefix xs ys) ≡ plus_prefix (remainder n xs) (remainder n ys)
+unfolding remainder_by plus_prefix bits
 divided_sum zero xs ys size_xs size_ys bits_xs bits_ys = refl
 divided_sum (suc n) [] ys size_xs size_ys bits_xs bits_ys = absurd (omega arith)
 divided_sum (suc n) (x ∷ xs) [] size_xs size_ys bits_xs bits_ys = absurd (omega arith)
@@ -36,11 +36,11 @@ divided_sum (suc n) (x ∷ xs) (y ∷ ys) size_xs size_ys bits_xs bits_ys =
     tail_ys : All IsBit ys
     tail_ys = All-tail IsBit y ys bits_ys
 
-    less_xs : All IsBit (plus_front xs by)
-    less_xs = bits-plus_front xs by tail_xs (bits-bits 32 divisor)
+    less_xs : All IsBit (plus_prefix xs by)
+    less_xs = bits-plus_prefix xs by tail_xs (bits-bits 32 divisor)
 
-    less_ys : All IsBit (plus_front ys by)
-    less_ys = bits-plus_front ys by tail_ys (bits-bits 32 divisor)
+    less_ys : All IsBit (plus_prefix ys by)
+    less_ys = bits-plus_prefix ys by tail_ys (bits-bits 32 divisor)
 
     within_xs : length by ≤ length xs
     within_xs = omega (arith, length-bits 32 divisor)
@@ -48,29 +48,29 @@ divided_sum (suc n) (x ∷ xs) (y ∷ ys) size_xs size_ys bits_xs bits_ys =
     within_ys : length by ≤ length ys
     within_ys = omega (arith, length-bits 32 divisor)
 
-    twice : plus_front (plus_front xs by) (plus_front ys by) ≡ plus_front xs ys
+    twice : plus_prefix (plus_prefix xs by) (plus_prefix ys by) ≡ plus_prefix xs ys
     twice =
-        sym (plus_front_twice (plus_front xs by) ys by within_ys)
-        ∙ ap (λ (l : List ℕ). plus_front l by) (plus_front_swap xs by ys)
-        ∙ plus_front_twice (plus_front xs ys) by by (omega arith)
-        ∙ ap (plus_front (plus_front xs ys)) (plus_front_self by ∙ ap (λ (k : ℕ). replicate k 0) (length-bits 32 divisor))
-        ∙ plus_front_none 32 (plus_front xs ys)
+        sym (plus_prefix_twice (plus_prefix xs by) ys by within_ys)
+        ∙ ap (λ (l : List ℕ). plus_prefix l by) (plus_prefix_swap xs by ys)
+        ∙ plus_prefix_twice (plus_prefix xs ys) by by (omega arith)
+        ∙ ap (plus_prefix (plus_prefix xs ys)) (plus_prefix_self by ∙ ap (λ (k : ℕ). replicate k 0) (length-bits 32 divisor))
+        ∙ plus_prefix_none 32 (plus_prefix xs ys)
 
     each : ((us vs : List ℕ) → length us ≡ n + 32 → length vs ≡ n + 32 → All IsBit us → All IsBit vs
-        → remainder n (plus_front us vs) ≡ plus_front (remainder n us) (remainder n vs))
+        → remainder n (plus_prefix us vs) ≡ plus_prefix (remainder n us) (remainder n vs))
         → (a b : ℕ) → a < 2 → b < 2
-        → remainder n (cond (eqb (bit_xor a b) 1) (plus_front (plus_front xs ys) by) (plus_front xs ys))
-        ≡ plus_front (remainder n (cond (eqb a 1) (plus_front xs by) xs)) (remainder n (cond (eqb b 1) (plus_front ys by) ys))
+        → remainder n (cond (eqb (bit_xor a b) 1) (plus_prefix (plus_prefix xs ys) by) (plus_prefix xs ys))
+        ≡ plus_prefix (remainder n (cond (eqb a 1) (plus_prefix xs by) xs)) (remainder n (cond (eqb b 1) (plus_prefix ys by) ys))
     each below zero zero bit_a bit_b = below xs ys (omega arith) (omega arith) tail_xs tail_ys
     each below zero (suc zero) bit_a bit_b =
-        ap (remainder n) (plus_front_twice xs ys by within_ys)
-        ∙ below xs (plus_front ys by) (omega arith) (omega (arith, length-plus_front ys by)) tail_xs less_ys
+        ap (remainder n) (plus_prefix_twice xs ys by within_ys)
+        ∙ below xs (plus_prefix ys by) (omega arith) (omega (arith, length-plus_prefix ys by)) tail_xs less_ys
     each below (suc zero) zero bit_a bit_b =
-        ap (remainder n) (plus_front_swap xs ys by)
-        ∙ below (plus_front xs by) ys (omega (arith, length-plus_front xs by)) (omega arith) less_xs tail_ys
+        ap (remainder n) (plus_prefix_swap xs ys by)
+        ∙ below (plus_prefix xs by) ys (omega (arith, length-plus_prefix xs by)) (omega arith) less_xs tail_ys
     each below (suc zero) (suc zero) bit_a bit_b =
         ap (remainder n) (sym twice)
-        ∙ below (plus_front xs by) (plus_front ys by) (omega (arith, length-plus_front xs by)) (omega (arith, length-plus_front ys by)) less_xs less_ys
+        ∙ below (plus_prefix xs by) (plus_prefix ys by) (omega (arith, length-plus_prefix xs by)) (omega (arith, length-plus_prefix ys by)) less_xs less_ys
     each below zero (suc (suc b)) bit_a bit_b = absurd (omega arith)
     each below (suc zero) (suc (suc b)) bit_a bit_b = absurd (omega arith)
     each below (suc (suc a)) b bit_a bit_b = absurd (omega arith)
@@ -99,15 +99,15 @@ sum_with byte bytes is =
     let long : length (eight ++ others) ≡ 8 * (k + 1) + 32 = omega (arith, length-append eight others, length-replicate {A = ℕ} 8 0) in
     let all_others : All IsBit others = All-append IsBit (bits_of bytes) (replicate 32 0) (bits-bits_of bytes) (All-replicate IsBit 32 0 (omega arith)) in
     let all_bits : All IsBit (eight ++ others) = All-append IsBit eight others (All-replicate IsBit 8 0 (omega arith)) all_others in
-    let sum : plus_front (padded k byte) (eight ++ others) ≡ (bits 8 byte ++ bits_of bytes) ++ replicate 32 0 =
-    plus_front-append (bits 8 byte) eight (replicate (8 * k + 32) 0) others (length-bits 8 byte)
-    ∙ ap (λ (l : List ℕ). l ++ plus_front (replicate (8 * k + 32) 0) others) (plus_front_none 8 (bits 8 byte))
-    ∙ ap (λ (m : ℕ). bits 8 byte ++ plus_front (replicate m 0) others) (sym size)
+    let sum : plus_prefix (padded k byte) (eight ++ others) ≡ (bits 8 byte ++ bits_of bytes) ++ replicate 32 0 =
+    plus_prefix-append (bits 8 byte) eight (replicate (8 * k + 32) 0) others (length-bits 8 byte)
+    ∙ ap (λ (l : List ℕ). l ++ plus_prefix (replicate (8 * k + 32) 0) others) (plus_prefix_none 8 (bits 8 byte))
+    ∙ ap (λ (m : ℕ). bits 8 byte ++ plus_prefix (replicate m 0) others) (sym size)
     ∙ ap (λ (l : List ℕ). bits 8 byte ++ l) (zeros_plus others)
     ∙ sym (append_assoc (bits 8 byte) (bits_of bytes) (replicate 32 0)) in
-    sym (plus_front-bits 32 (byte_remainder k byte) (remainders_sum bytes))
-    ∙ ap (λ (l : List ℕ). plus_front l (bits 32 (remainders_sum bytes))) (bits-byte_remainder k byte)
-    ∙ ap (plus_front (remainder (8 * (k + 1)) (padded k byte))) (is ∙ sym (ap (λ (m : ℕ). remainder m (eight ++ others)) count ∙ zeros_divided (8 * k) others))
+    sym (plus_prefix-bits 32 (byte_remainder k byte) (remainders_sum bytes))
+    ∙ ap (λ (l : List ℕ). plus_prefix l (bits 32 (remainders_sum bytes))) (bits-byte_remainder k byte)
+    ∙ ap (plus_prefix (remainder (8 * (k + 1)) (padded k byte))) (is ∙ sym (ap (λ (m : ℕ). remainder m (eight ++ others)) count ∙ zeros_divided (8 * k) others))
     ∙ sym (divided_sum (8 * (k + 1)) (padded k byte) (eight ++ others) (length-padded k byte) long (bits-padded k byte) all_bits)
     ∙ ap (remainder (8 * (k + 1))) sum
     ∙ ap (λ (m : ℕ). remainder m ((bits 8 byte ++ bits_of bytes) ++ replicate 32 0)) whole
@@ -119,44 +119,44 @@ bits-remainders_sum [] = refl
 bits-remainders_sum (byte ∷ bytes) = sum_with byte bytes (bits-remainders_sum bytes)
 
 -- the bits of bytes that are added are added
-bits_of-plus_front : (xs ys : List ℕ) → bits_of (plus_front xs ys) ≡ plus_front (bits_of xs) (bits_of ys)
-unfolding plus_front bits_of bits
-bits_of-plus_front xs [] = refl
-bits_of-plus_front [] (y ∷ ys) = refl
-bits_of-plus_front (x ∷ xs) (y ∷ ys) =
-    ap (λ (l : List ℕ). bits 8 (bit_xor x y) ++ l) (bits_of-plus_front xs ys)
-    ∙ ap (λ (l : List ℕ). l ++ plus_front (bits_of xs) (bits_of ys)) (sym (plus_front-bits 8 x y))
-    ∙ sym (plus_front-append (bits 8 x) (bits 8 y) (bits_of xs) (bits_of ys) (length-bits 8 x ∙ sym (length-bits 8 y)))
+bits_of-plus_prefix : (xs ys : List ℕ) → bits_of (plus_prefix xs ys) ≡ plus_prefix (bits_of xs) (bits_of ys)
+unfolding plus_prefix bits_of bits
+bits_of-plus_prefix xs [] = refl
+bits_of-plus_prefix [] (y ∷ ys) = refl
+bits_of-plus_prefix (x ∷ xs) (y ∷ ys) =
+    ap (λ (l : List ℕ). bits 8 (bit_xor x y) ++ l) (bits_of-plus_prefix xs ys)
+    ∙ ap (λ (l : List ℕ). l ++ plus_prefix (bits_of xs) (bits_of ys)) (sym (plus_prefix-bits 8 x y))
+    ∙ sym (plus_prefix-append (bits 8 x) (bits 8 y) (bits_of xs) (bits_of ys) (length-bits 8 x ∙ sym (length-bits 8 y)))
 
 -- what is added within the first of two joined lists leaves the second
-pub plus_front_within : (xs ys added : List ℕ) → length added ≤ length xs → plus_front (xs ++ ys) added ≡ plus_front xs added ++ ys
-unfolding plus_front
-plus_front_within xs ys [] within = refl
-plus_front_within [] ys (z ∷ added) within = absurd (omega arith)
-plus_front_within (x ∷ xs) ys (z ∷ added) within = ap (λ (l : List ℕ). bit_xor x z ∷ l) (plus_front_within xs ys added (omega arith))
+pub plus_prefix_within : (xs ys added : List ℕ) → length added ≤ length xs → plus_prefix (xs ++ ys) added ≡ plus_prefix xs added ++ ys
+unfolding plus_prefix
+plus_prefix_within xs ys [] within = refl
+plus_prefix_within [] ys (z ∷ added) within = absurd (omega arith)
+plus_prefix_within (x ∷ xs) ys (z ∷ added) within = ap (λ (l : List ℕ). bit_xor x z ∷ l) (plus_prefix_within xs ys added (omega arith))
 
 -- Eight bytes read into the register: what their sum with the register's leaves is the next register.
 pub word_read : (register next : ℕ) (word bytes : List ℕ) → length word ≡ 8
-    → bits 32 next ≡ remainder 64 (bits_of (plus_front word (word_bytes register)) ++ replicate 32 0)
+    → bits 32 next ≡ remainder 64 (bits_of (plus_prefix word (word_bytes register)) ++ replicate 32 0)
     → divided_from next bytes ≡ divided_from register (word ++ bytes)
-unfolding divided_from plus_front
+unfolding divided_from plus_prefix
 word_read register next word bytes size is =
     let n : ℕ = 8 * length bytes in
     let zeros : List ℕ = replicate 32 0 in
-    let behind : List ℕ = bits_of bytes ++ zeros in
+    let past : List ℕ = bits_of bytes ++ zeros in
     let four : List ℕ = word_bytes register in
-    let sum : List ℕ = plus_front word four in
-    let sum_size : length (bits_of sum) ≡ 64 = omega (arith, length-plus_front word four, length-bits_of sum) in
+    let sum : List ℕ = plus_prefix word four in
+    let sum_size : length (bits_of sum) ≡ 64 = omega (arith, length-plus_prefix word four, length-bits_of sum) in
     let count : 64 + n ≡ 8 * length (word ++ bytes) = omega (arith, length-append word bytes) in
-    let met : bits_of sum ++ behind ≡ plus_front (bits_of (word ++ bytes) ++ zeros) (bits 32 register) =
-    ap (λ (l : List ℕ). l ++ behind) (bits_of-plus_front word four)
-    ∙ sym (plus_front_within (bits_of word) behind (bits_of four) (omega (arith, length-bits_of word, length-bits_of four)))
-    ∙ ap (plus_front (bits_of word ++ behind)) (bits_of-word_bytes register)
-    ∙ ap (λ (l : List ℕ). plus_front l (bits 32 register)) (sym (ap (λ (l : List ℕ). l ++ zeros) (bits_of-append word bytes) ∙ append_assoc (bits_of word) (bits_of bytes) zeros)) in
-    ap (λ (l : List ℕ). remainder n (plus_front behind l)) is
-    ∙ ap (remainder n) (sym (front_divided 64 (bits_of sum) behind sum_size))
-    ∙ sym (remainder_by_twice (bits 32 divisor) 64 n (bits_of sum ++ behind))
-    ∙ ap (λ (k : ℕ). remainder k (bits_of sum ++ behind)) count
+    let met : bits_of sum ++ past ≡ plus_prefix (bits_of (word ++ bytes) ++ zeros) (bits 32 register) =
+    ap (λ (l : List ℕ). l ++ past) (bits_of-plus_prefix word four)
+    ∙ sym (plus_prefix_within (bits_of word) past (bits_of four) (omega (arith, length-bits_of word, length-bits_of four)))
+    ∙ ap (plus_prefix (bits_of word ++ past)) (bits_of-word_bytes register)
+    ∙ ap (λ (l : List ℕ). plus_prefix l (bits 32 register)) (sym (ap (λ (l : List ℕ). l ++ zeros) (bits_of-append word bytes) ∙ append_assoc (bits_of word) (bits_of bytes) zeros)) in
+    ap (λ (l : List ℕ). remainder n (plus_prefix past l)) is
+    ∙ ap (remainder n) (sym (prefix_divided 64 (bits_of sum) past sum_size))
+    ∙ sym (remainder_by_twice (bits 32 divisor) 64 n (bits_of sum ++ past))
+    ∙ ap (λ (k : ℕ). remainder k (bits_of sum ++ past)) count
     ∙ ap (remainder (8 * length (word ++ bytes))) met
 
 -- eight bytes, one by one
@@ -178,12 +178,12 @@ eight_bytes (a ∷ b ∷ c ∷ d ∷ e ∷ f ∷ g ∷ h ∷ i ∷ rest) size = 
 pub word_met : (register : ℕ) (word four : List ℕ) → length word ≡ 8 → four ≡ word_bytes register
     → bit_xor (get_or word 0 0) (get_or four 0 0) ∷ bit_xor (get_or word 1 0) (get_or four 1 0) ∷ bit_xor (get_or word 2 0) (get_or four 2 0)
     ∷ bit_xor (get_or word 3 0) (get_or four 3 0) ∷ get_or word 4 0 ∷ get_or word 5 0 ∷ get_or word 6 0 ∷ get_or word 7 0 ∷ []
-    ≡ plus_front word (word_bytes register)
-unfolding plus_front
+    ≡ plus_prefix word (word_bytes register)
+unfolding plus_prefix
 word_met register word four size is =
     ap (λ (f : List ℕ). bit_xor (get_or word 0 0) (get_or f 0 0) ∷ bit_xor (get_or word 1 0) (get_or f 1 0) ∷ bit_xor (get_or word 2 0) (get_or f 2 0)
     ∷ bit_xor (get_or word 3 0) (get_or f 3 0) ∷ get_or word 4 0 ∷ get_or word 5 0 ∷ get_or word 6 0 ∷ get_or word 7 0 ∷ []) is
-    ∙ ap (λ (w : List ℕ). plus_front w (word_bytes register)) (eight_bytes word size)
+    ∙ ap (λ (w : List ℕ). plus_prefix w (word_bytes register)) (eight_bytes word size)
 
 -- a sum of four and more
 xor_four : (a b c d more : ℕ) → bit_xor (bit_xor (bit_xor (bit_xor a b) c) d) more ≡ bit_xor a (bit_xor b (bit_xor c (bit_xor d more)))

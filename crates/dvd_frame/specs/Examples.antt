@@ -1,6 +1,6 @@
 -- Worked values from outside the program.
 use Rattle.std.specs.Prelude.{◌≡◌, true, false, [], ◌∷◌, ◌++◌, refl}
-use Rattle.coding.specs.BitDivision.{plus_front, remainder_by}
+use Rattle.coding.specs.BitDivision.{plus_prefix, remainder_by}
 use Rattle.coding.specs.Field.{shift, shifted, partial_product, product, power}
 use Rattle.coding.specs.Words.{value}
 use Rattle.coding.specs.Bits.{bits, bits_of}
@@ -38,17 +38,17 @@ check-swapped = refl
 
 -- the EDC of no bytes at all is zero
 edc-none : edc_of [] ≡ 0x00 ∷ 0x00 ∷ 0x00 ∷ 0x00 ∷ []
-unfolding edc_of remainder_by plus_front bits_of bits
+unfolding edc_of remainder_by plus_prefix bits_of bits
 edc-none = refl
 
 -- the EDC of the single byte 0x01
 edc-01 : edc_of (0x01 ∷ []) ≡ 0x80 ∷ 0x00 ∷ 0x00 ∷ 0x11 ∷ []
-unfolding edc_of remainder_by plus_front bits_of bits
+unfolding edc_of remainder_by plus_prefix bits_of bits
 edc-01 = refl
 
 -- the EDC of the single byte 0x02
 edc-02 : edc_of (0x02 ∷ []) ≡ 0x80 ∷ 0x00 ∷ 0x00 ∷ 0x33 ∷ []
-unfolding edc_of remainder_by plus_front bits_of bits
+unfolding edc_of remainder_by plus_prefix bits_of bits
 edc-02 = refl
 
 -- the first data sector has the first preset, as bits b7 to b4 of its number are 0

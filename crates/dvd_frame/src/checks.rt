@@ -42,10 +42,10 @@ pub fn edc(bytes: &[u8]) -> [u8; 4]
 /// bytes and its unscrambled Main Data in two places, and needn't copy them together. It is inlined, so
 /// that `folded` knows the lengths.
 #[inline(always)]
-pub(crate) fn edc_of_parts(front: &[u8], back: &[u8]) -> [u8; 4]
-    ensures { result ≡ edc_of (front.now ++ back.now) }
+pub(crate) fn edc_of_parts(prefix: &[u8], back: &[u8]) -> [u8; 4]
+    ensures { result ≡ edc_of (prefix.now ++ back.now) }
 {
-    let register = divide_parts(front, back);
+    let register = divide_parts(prefix, back);
     let mut edc = [0; 4];
     BigEndian::write_u32(&mut edc, register);
     edc
@@ -53,15 +53,15 @@ pub(crate) fn edc_of_parts(front: &[u8], back: &[u8]) -> [u8; 4]
 
 // The remainder of two lists of bytes, as if the second came after the first.
 #[inline(always)]
-fn divide_parts(front: &[u8], back: &[u8]) -> u32
-    ensures { divided_from result [] ≡ divided_from 0 (front.now ++ back.now) }
+fn divide_parts(prefix: &[u8], back: &[u8]) -> u32
+    ensures { divided_from result [] ≡ divided_from 0 (prefix.now ++ back.now) }
 {
     // The bytes of a frame before its EDC are 2,060. Only longer lists are divided word by word. The lengths are
     // compared without a sum, which could overflow.
-    if front.len() <= 2080 && back.len() <= 2080 - front.len() {
-        return folded(front, back);
+    if prefix.len() <= 2080 && back.len() <= 2080 - prefix.len() {
+        return folded(prefix, back);
     }
-    with_bytes(with_bytes(0, front), back)
+    with_bytes(with_bytes(0, prefix), back)
 }
 
 // The remainder of at most 2,080 bytes, as many as 65 chunks of 32: zeros in front of them change nothing. Each fold
@@ -70,13 +70,13 @@ fn divide_parts(front: &[u8], back: &[u8]) -> u32
 // eight. A fold begins where the one before ended.
 // All is inlined: where the lengths are known, only the bytes in front are blanked.
 #[inline(always)]
-fn folded(front: &[u8], back: &[u8]) -> u32
-    requires { length front.now + length back.now ≤ 2080 }
-    ensures { divided_from result [] ≡ divided_from 0 (front.now ++ back.now) }
+fn folded(prefix: &[u8], back: &[u8]) -> u32
+    requires { length prefix.now + length back.now ≤ 2080 }
+    ensures { divided_from result [] ≡ divided_from 0 (prefix.now ++ back.now) }
 {
     let mut bytes = [0; 2080];
     let middle = 2080 - back.len();
-    put(&mut bytes, middle - front.len(), front);
+    put(&mut bytes, middle - prefix.len(), prefix);
     put(&mut bytes, middle, back);
     fold::<32>(&mut bytes, 0, 33);
     fold::<16>(&mut bytes, 1056, 32);

@@ -3,9 +3,9 @@
 //! The square of a sum of polynomials over the two bits is the sum of their squares. So with x^32 + x^31 + x^4 + 1,
 //! x^(32 n) + x^(31 n) + x^(4 n) + 1 is a multiple of the divisor for each power of two n, and a chunk of n bits may be
 //! added to those 1, 28 and 32 chunks after it and then left out. In contracts `divided_from 0` is what division
-//! leaves, and `plus_front` adds a list to the front of another.
+//! leaves, and `plus_prefix` adds a list to the front of another.
 ghost use Rattle.std.specs.Prelude.{◌≡◌, ℕ, ◌+◌, ◌*◌, ◌^◌, ◌≤◌, ◌++◌, length, drop, replicate};
-ghost use Rattle.coding.specs.BitDivision.{plus_front};
+ghost use Rattle.coding.specs.BitDivision.{plus_prefix};
 ghost use Rattle.dvd_frame.specs.Inner.Registers.{divided_from};
 
 use crate::parts::load;
@@ -39,7 +39,7 @@ fn push<const W: usize>(bytes: &mut [u8], at: usize, carried: Simd<u8, W>) -> Si
     requires { at + 33 * W ≤ length bytes.old }
     ensures size { length bytes.new ≡ length bytes.old }
     ensures same { (k : ℕ) → W ≡ 2 ^ k
-        → divided_from 0 (plus_front (drop (at + W) bytes.new) result) ≡ divided_from 0 (plus_front (drop at bytes.old) carried.entry) }
+        → divided_from 0 (plus_prefix (drop (at + W) bytes.new) result) ≡ divided_from 0 (plus_prefix (drop at bytes.old) carried.entry) }
 {
     let taken = load(bytes, at) ^ carried;
     add(bytes, at + 28 * W, taken);
@@ -51,7 +51,7 @@ fn push<const W: usize>(bytes: &mut [u8], at: usize, carried: Simd<u8, W>) -> Si
 #[inline(always)]
 fn add<const W: usize>(bytes: &mut [u8], at: usize, lanes: Simd<u8, W>)
     requires { at + W ≤ length bytes.old }
-    ensures { bytes.new ≡ plus_front bytes.old (replicate at 0 ++ lanes.entry) }
+    ensures { bytes.new ≡ plus_prefix bytes.old (replicate at 0 ++ lanes.entry) }
 {
     let sum = load(bytes, at) ^ lanes;
     sum.copy_to_slice(&mut bytes[at..]);

@@ -113,10 +113,10 @@ fn zeros_scrambled_by_four_ids(rt: HostRuntime) {
         (0x03_00F0, [0x05, 0x00, 0xAA]),
         (0x03_0100, [0x01, 0x00, 0x22]),
     ];
-    for (word, front) in known {
+    for (word, prefix) in known {
         let mut main = [0; 2048];
         scramble(Rule::Whole, Id::from_word(word), &mut main);
-        assert_eq!(rt; &main[..3], front.as_slice());
+        assert_eq!(rt; &main[..3], prefix.as_slice());
         scramble(Rule::Whole, Id::from_word(word), &mut main);
         assert_eq!(rt; main[2047], 0);
     }
@@ -138,10 +138,10 @@ fn the_first_data_frame(rt: HostRuntime) {
     let id = Id::new(Area::DataZone, 0, false, 0x03_0000);
     let mut frame = [0xFF; 2064];
     make_frame(id, &[0; 6], Rule::Whole, &[0; 2048], &mut frame);
-    let front = [
+    let prefix = [
         0, 3, 0, 0, 0x11, 0x12, 0, 0, 0, 0, 0, 0, 0x01, 0x00, 0x22, 0x04,
     ];
-    assert!(rt; frame.starts_with(&front));
+    assert!(rt; frame.starts_with(&prefix));
     assert!(rt; frame.ends_with(&[0x02, 0xAE, 0xBA, 0xF1]));
 }
 
@@ -157,10 +157,10 @@ fn the_first_reference_frame(rt: HostRuntime) {
         &[0xAC; 2048],
         &mut frame,
     );
-    let front = [
+    let prefix = [
         4, 2, 0xF0, 0, 0x88, 0x7E, 1, 2, 3, 4, 5, 6, 0xAD, 0xAC, 0x8E, 0xA8,
     ];
-    assert!(rt; frame.starts_with(&front));
+    assert!(rt; frame.starts_with(&prefix));
     assert_eq!(rt; frame[171], 0xDD);
     assert_eq!(rt; frame[172], 0xAC);
 }

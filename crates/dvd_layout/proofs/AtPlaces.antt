@@ -26,7 +26,7 @@ on_layer_0 layout sector number within is =
 -- any other is on layer 1, as far after its first as it is after those of layer 0
 on_layer_1 : (layout : Layout) (sector number : ℕ) → layout.sectors0 ≤ sector → number ≡ second_first layout + (sector - layout.sectors0)
     → place_of layout sector ≡ (1, number)
-on_layer_1 layout sector number behind is =
+on_layer_1 layout sector number past is =
     let test : nat_lt sector layout.sectors0 ≡ false = grind (arith, nat_tests) in
     rw (is, test) refl
 
@@ -92,7 +92,7 @@ plan_of-at layout zones =
 -- image sector f of a block of a plan is at the block's sector number f
 pub plan_of-places : (layout : Layout) (zones : Zones) (k from f : ℕ) (entry : BlockPlan) → slice_get (plan_of layout zones) k ≡ Some entry
     → entry.content ≡ Image from → f < 16 → from + f < total_sectors layout → place_of layout (from + f) ≡ (entry.layer, entry.first + f)
-plan_of-places layout zones k from f entry stands image =
-    let here = plan_of-at_place (IsBlockAt layout) layout zones k entry (plan_of-at layout zones) stands in
+plan_of-places layout zones k from f entry is_there image =
+    let here = plan_of-at_place (IsBlockAt layout) layout zones k entry (plan_of-at layout zones) is_there in
     let by_content : IsAt layout (Image from) entry.first 16 entry.layer = subst (λ content. IsAt layout content entry.first 16 entry.layer) image here in
     by_content f

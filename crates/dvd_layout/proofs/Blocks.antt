@@ -101,7 +101,7 @@ module _ (P : Zone → Type 0) (Q : BlockPlan → Type 0) (each : (zone : Zone) 
 -- what holds of all blocks of a plan holds of the one at a place
 pub plan_of-at_place : (Q : BlockPlan → Type 0) (layout : Layout) (zones : Zones) (k : ℕ) (entry : BlockPlan)
     → All Q (plan_of layout zones) → slice_get (plan_of layout zones) k ≡ Some entry → Q entry
-plan_of-at_place Q layout zones k entry all stands =
+plan_of-at_place Q layout zones k entry all is_there =
     let plan = plan_of layout zones in
-    subst Q (get_or_from_slice_get plan k entry entry stands)
-    (All-get_or Q plan k entry (slice_get_within plan k entry stands) all)
+    subst Q (get_or_from_slice_get plan k entry entry is_there)
+    (All-get_or Q plan k entry (slice_get_within plan k entry is_there) all)

@@ -87,14 +87,14 @@ in_order-whole layout (zone ∷ zones) from order =
 in_first : (layout : Layout) (zone : Zone) (rest : List BlockPlan) (from k : ℕ) (entry : BlockPlan) → GoesOn layout from zone.content zone.blocks → k < zone.blocks
     → slice_get (entries_of zone ++ rest) k ≡ Some entry → IsImage entry.content
     → from + image_before layout (take k (entries_of zone ++ rest)) ≡ image_from entry.content
-in_first layout zone rest from k entry goes within stands image =
+in_first layout zone rest from k entry goes within is_there image =
     let size = length-entries_of zone in
     let short : k ≤ length (entries_of zone) = omega arith in
     let inside : k < length (entries_of zone) = omega arith in
     let is : entry_of zone k ≡ entry =
     sym (get_or-map-range_with_len (entry_of zone) 0 zone.blocks k k entry within (omega arith))
     ∙ sym (get_or_append_left (entries_of zone) rest entry k inside)
-    ∙ get_or_from_slice_get (entries_of zone ++ rest) k entry entry stands in
+    ∙ get_or_from_slice_get (entries_of zone ++ rest) k entry entry is_there in
     let before : image_before layout (take k (entries_of zone ++ rest)) ≡ held layout zone.content k =
     ap (image_before layout) (take-append-le k (entries_of zone) rest short ∙ take-map-range_with_len (entry_of zone) 0 zone.blocks k (omega arith))
     ∙ held-entries layout zone k in
@@ -102,20 +102,20 @@ in_first layout zone rest from k entry goes within stands image =
     ap (λ n. from + n) before ∙ block-goes_on layout zone.content from zone.blocks k goes within image_there ∙ ap (λ e. image_from e.content) is
 
 -- an element after the first list is in the second
-slice_get-behind : {X : Type 0} (xs ys : List X) (k : ℕ) (x : X) → length xs ≤ k → slice_get (xs ++ ys) k ≡ Some x
+slice_get-after : {X : Type 0} (xs ys : List X) (k : ℕ) (x : X) → length xs ≤ k → slice_get (xs ++ ys) k ≡ Some x
     → slice_get ys (k - length xs) ≡ Some x
-slice_get-behind xs ys k x behind stands =
-    let within = slice_get_within (xs ++ ys) k x stands in
+slice_get-after xs ys k x farther is_there =
+    let within = slice_get_within (xs ++ ys) k x is_there in
     let size = length-append xs ys in
     let place : length xs + (k - length xs) ≡ k = omega arith in
     slice_get_read ys (length ys) (k - length xs) x refl (omega arith)
-    (sym (get_or_from_slice_get (xs ++ ys) k x x stands) ∙ ap (λ n. get_or (xs ++ ys) n x) (sym place) ∙ get_or-append-add xs ys (k - length xs) x)
+    (sym (get_or_from_slice_get (xs ++ ys) k x x is_there) ∙ ap (λ n. get_or (xs ++ ys) n x) (sym place) ∙ get_or-append-add xs ys (k - length xs) x)
 
 -- the image sectors before a block after the first zone are those of that zone, and those before the block in the
 -- others
-before-behind : (layout : Layout) (zone : Zone) (rest : List BlockPlan) (k : ℕ) → length (entries_of zone) ≤ k
+before-after : (layout : Layout) (zone : Zone) (rest : List BlockPlan) (k : ℕ) → length (entries_of zone) ≤ k
     → image_before layout (take k (entries_of zone ++ rest)) ≡ held layout zone.content zone.blocks + image_before layout (take (k - length (entries_of zone)) rest)
-before-behind layout zone rest k behind =
+before-after layout zone rest k farther =
     let j = k - length (entries_of zone) in
     let place : k ≡ length (entries_of zone) + j = omega arith in
     ap (λ n. image_before layout (take n (entries_of zone ++ rest))) place
@@ -124,22 +124,22 @@ before-behind layout zone rest k behind =
     ∙ ap (λ n. n + image_before layout (take j rest)) (held-entries layout zone zone.blocks)
 
 -- the blocks before a block of image hold the image sectors before its first
-in_order-stands : (layout : Layout) (zones : List Zone) (from k : ℕ) (entry : BlockPlan) → InOrder layout from zones
+in_order-is_there : (layout : Layout) (zones : List Zone) (from k : ℕ) (entry : BlockPlan) → InOrder layout from zones
     → slice_get (flat_map entries_of zones) k ≡ Some entry → IsImage entry.content
     → from + image_before layout (take k (flat_map entries_of zones)) ≡ image_from entry.content
-in_order-stands layout [] from k entry order stands image = let none = slice_get_within [] k entry stands in absurd (omega arith)
-in_order-stands layout (zone ∷ zones) from k entry order stands image =
-    by_place (cases_lt k zone.blocks) (λ j later. in_order-stands layout zones (from + held layout zone.content zone.blocks) j entry order.1 later image) where
+in_order-is_there layout [] from k entry order is_there image = let none = slice_get_within [] k entry is_there in absurd (omega arith)
+in_order-is_there layout (zone ∷ zones) from k entry order is_there image =
+    by_place (cases_lt k zone.blocks) (λ j later. in_order-is_there layout zones (from + held layout zone.content zone.blocks) j entry order.1 later image) where
       by_place : (k < zone.blocks) ⊎ (zone.blocks ≤ k)
           → ((j : ℕ) → slice_get (flat_map entries_of zones) j ≡ Some entry
           → from + held layout zone.content zone.blocks + image_before layout (take j (flat_map entries_of zones)) ≡ image_from entry.content)
           → from + image_before layout (take k (entries_of zone ++ flat_map entries_of zones)) ≡ image_from entry.content
-      by_place (inl within) in_rest = in_first layout zone (flat_map entries_of zones) from k entry order.0 within stands image
+      by_place (inl within) in_rest = in_first layout zone (flat_map entries_of zones) from k entry order.0 within is_there image
       by_place (inr past) in_rest =
           let size = length-entries_of zone in
-          let behind : length (entries_of zone) ≤ k = omega arith in
-          let rest = in_rest (k - length (entries_of zone)) (slice_get-behind (entries_of zone) (flat_map entries_of zones) k entry behind stands) in
-          let before = before-behind layout zone (flat_map entries_of zones) k behind in
+          let farther : length (entries_of zone) ≤ k = omega arith in
+          let rest = in_rest (k - length (entries_of zone)) (slice_get-after (entries_of zone) (flat_map entries_of zones) k entry farther is_there) in
+          let before = before-after layout zone (flat_map entries_of zones) k farther in
           omega arith
 
 -- the Data Zone of layer 0 begins with the first image sector
@@ -188,5 +188,5 @@ plan_of-whole layout zones = let whole = in_order-whole layout (zone_table layou
 pub plan_of-in_order : (layout : Layout) (zones : Zones) (k : ℕ) (entry : BlockPlan) → slice_get (plan_of layout zones) k ≡ Some entry → IsImage entry.content
     → image_before layout (take k (plan_of layout zones)) ≡ image_from entry.content
 unfolding plan_of
-plan_of-in_order layout zones k entry stands image =
-    let order = in_order-stands layout (zone_table layout zones) 0 k entry (zone_table-in_order layout zones) stands image in omega arith
+plan_of-in_order layout zones k entry is_there image =
+    let order = in_order-is_there layout (zone_table layout zones) 0 k entry (zone_table-in_order layout zones) is_there image in omega arith

@@ -6,7 +6,7 @@ use Rattle.std.proofs.lemmas.Bool.{cases_lt}
 use Rattle.std.proofs.lemmas.Grind.{flat_map-append}
 use Rattle.std.proofs.lemmas.List.Concat.{flat_map-cons}
 use Rattle.dvd_frame.specs.declared.id.Area.TheVariants.{LeadIn}
-use Rattle.dvd_layout.specs.Laws.{ControlDataStandInTheLeadIn, PlanBeginsWithTheLeadIn}
+use Rattle.dvd_layout.specs.Laws.{ControlDataIsInTheLeadIn, PlanBeginsWithTheLeadIn}
 use Rattle.dvd_layout.specs.Plan.{entries_of, entry_of, lead_in, lead_in_blocks, plan_of, zone_of, zones_by}
 use Rattle.dvd_layout.specs.declared.entry.BlockPlan.{BlockPlan}
 use Rattle.dvd_layout.specs.declared.entry.Content.TheVariants.{Zero, Reference, Control}
@@ -81,8 +81,8 @@ module _ (initial : ℕ) where
   -- where the block at a place holds no control data, none is read there
   not_control : (k : ℕ) (own entry : BlockPlan) → slice_get (flat_map entries_of (lead_in initial 0)) k ≡ Some own → own.content ≢ Control
       → slice_get (flat_map entries_of (lead_in initial 0)) k ≡ Some entry → entry.content ≢ Control
-  not_control k own entry stands not read is =
-      let same : own ≡ entry = (let some : Some own ≡ Some entry = sym stands ∙ read in cc) in
+  not_control k own entry is_there not read is =
+      let same : own ≡ entry = (let some : Some own ≡ Some entry = sym is_there ∙ read in cc) in
       not (ap (λ (e : BlockPlan). e.content) same ∙ is)
 
   -- the first places of the lead-in are the blocks of the Initial Zone
@@ -108,19 +108,19 @@ module _ (initial : ℕ) where
     | inr le ↦ elim (cases_lt k (initial + 2)) [
       | inl lt ↦
           let b = k - initial in
-          let stands = subst (λ n. slice_get (flat_map entries_of (lead_in initial 0)) n ≡ Some (entry_of reference b)) (let is : initial + b ≡ k = omega arith in is) (in_reference b (omega arith)) in
-          not_control k (entry_of reference b) entry stands (λ is. cc) read
+          let is_there = subst (λ n. slice_get (flat_map entries_of (lead_in initial 0)) n ≡ Some (entry_of reference b)) (let is : initial + b ≡ k = omega arith in is) (in_reference b (omega arith)) in
+          not_control k (entry_of reference b) entry is_there (λ is. cc) read
       | inr further ↦
           let b = k - (initial + 2) in
-          let stands = subst (λ n. slice_get (flat_map entries_of (lead_in initial 0)) n ≡ Some (entry_of buffer b)) (let is : initial + 2 + b ≡ k = omega arith in is) (in_buffer b (omega arith)) in
-          not_control k (entry_of buffer b) entry stands (λ is. cc) read
+          let is_there = subst (λ n. slice_get (flat_map entries_of (lead_in initial 0)) n ≡ Some (entry_of buffer b)) (let is : initial + 2 + b ≡ k = omega arith in is) (in_buffer b (omega arith)) in
+          not_control k (entry_of buffer b) entry is_there (λ is. cc) read
     ]
   ]
 
   -- so the control data are in 192 blocks of the lead-in, after 32 and those of the Initial Zone
-  pub control_data_stand : ControlDataStandInTheLeadIn initial
+  pub control_data_is : ControlDataIsInTheLeadIn initial
   unfolding lead_in_blocks
-  control_data_stand = record { stand = in_control; none_before = none_before }
+  control_data_is = record { stand = in_control; none_before = none_before }
 
 -- the zones of a disk begin with those of the lead-in
 begins : (layout : Layout) (shape : Shape) → (rest : List Zone) × (zones_by layout shape ≡ lead_in layout.initial 0 ++ rest)

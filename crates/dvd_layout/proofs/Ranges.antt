@@ -14,7 +14,7 @@ use Rattle.dvd_layout.specs.declared.zone.Zone.{Zone}
 use Rattle.dvd_layout.specs.Place.{HasNumbers}
 use Rattle.dvd_layout.proofs.Blocks.{entries_of-each, plan_of-each, zone_table-each, zones-each}
 use Rattle.dvd_layout.specs.Lengths.{is_opposite, padded}
-use Rattle.dvd_layout.specs.Plan.{entries_of, lead_in_blocks, plan_of, zone_of, second_first, behind, lead_in, inside_out, out_and_in, first_data, second_data, zones_by, zone_table}
+use Rattle.dvd_layout.specs.Plan.{entries_of, lead_in_blocks, plan_of, zone_of, second_first, zone_after, lead_in, inside_out, out_and_in, first_data, second_data, zones_by, zone_table}
 use Rattle.dvd_layout.specs.Inner.Ranges.{IsInRange}
 
 -- all these zones are in range
@@ -69,17 +69,17 @@ second_data-in_range layout =
     record { numbers = omega arith; image = omega arith; layers = omega arith }
 
 -- the zone of zeros after a Data Zone is in range where its end is
-behind-in_range : (image : Zone) (blocks : ℕ) (area : Area) → image.first + 16 * image.blocks + 16 * blocks ≤ 2 ^ 24 → image.layer < 2
-    → IsInRange (behind image blocks area)
-behind-in_range image blocks area numbers two = zeros-in_range (behind image blocks area) refl numbers two
+zone_after-in_range : (image : Zone) (blocks : ℕ) (area : Area) → image.first + 16 * image.blocks + 16 * blocks ≤ 2 ^ 24 → image.layer < 2
+    → IsInRange (zone_after image blocks area)
+zone_after-in_range image blocks area numbers two = zeros-in_range (zone_after image blocks area) refl numbers two
 
 -- a layer that is read from the inside is in range where its Data Zone is
 inside_out-in_range : (layout : Layout) (image : Zone) → IsInRange image → image.first + 16 * image.blocks + 16 * layout.tail ≤ 2 ^ 24
     → Each (inside_out layout image)
 inside_out-in_range layout image range numbers =
-    each-append (lead_in layout.initial image.layer) (image ∷ behind image layout.tail LeadOut ∷ [])
+    each-append (lead_in layout.initial image.layer) (image ∷ zone_after image layout.tail LeadOut ∷ [])
     (lead_in-in_range layout.initial image.layer layout.initial_fits range.layers)
-    (range, (behind-in_range image layout.tail LeadOut numbers range.layers, tt))
+    (range, (zone_after-in_range image layout.tail LeadOut numbers range.layers, tt))
 
 -- so is layer 0
 first_layer-in_range : (layout : Layout) → Each (inside_out layout (first_data layout))
@@ -97,16 +97,16 @@ out_and_in-in_range layout =
     let low = second_first-low layout in
     let middle = zone_of (second_first layout - 16 * layout.tail) layout.tail Middle 1 Zero in
     each-append (lead_in layout.initial 0)
-    (first_data layout ∷ behind (first_data layout) layout.tail Middle ∷ middle ∷ second_data layout ∷ behind (second_data layout) layout.tail LeadOut ∷ [])
+    (first_data layout ∷ zone_after (first_data layout) layout.tail Middle ∷ middle ∷ second_data layout ∷ zone_after (second_data layout) layout.tail LeadOut ∷ [])
     (lead_in-in_range layout.initial 0 layout.initial_fits (omega arith)) (
       first_data-in_range layout,
       (
-        behind-in_range (first_data layout) layout.tail Middle (omega arith) (omega arith),
+        zone_after-in_range (first_data layout) layout.tail Middle (omega arith) (omega arith),
         (
           zeros-in_range middle refl (omega arith) (omega arith),
           (
             second_data-in_range layout,
-            (behind-in_range (second_data layout) layout.tail LeadOut (omega arith) (omega arith), tt),
+            (zone_after-in_range (second_data layout) layout.tail LeadOut (omega arith) (omega arith), tt),
           ),
         ),
       ),

@@ -27,7 +27,7 @@ PlanNumbersHave24Bits = (layout : Layout) (zones : Zones) → EachOf HasNumbers 
 
 -- The control data of a disk are 192 blocks from sector 02F200 on, after the Initial Zone and 32 more blocks. No block
 -- before them is one of theirs.
-pub record ControlDataStandInTheLeadIn (initial : ℕ) : Type 0 where
+pub record ControlDataIsInTheLeadIn (initial : ℕ) : Type 0 where
   pub stand : (c : ℕ) → c < 192
       → slice_get (lead_in_blocks initial) (initial + 32 + c) ≡ Some (record { first = 0x2F200 + 16 * c; area = LeadIn; layer = 0; content = Control })
   pub none_before : (k : ℕ) (entry : BlockPlan) → k < initial + 32 → slice_get (lead_in_blocks initial) k ≡ Some entry → entry.content ≢ Control
@@ -43,8 +43,8 @@ PlacesDiffer =
     → place_of layout a ≡ place_of layout b → a ≡ b
 
 -- the blocks before a block of image hold exactly the image sectors before its first
-abbrev pub ImageStandsInOrder : Type 0
-ImageStandsInOrder =
+abbrev pub ImageIsInOrder : Type 0
+ImageIsInOrder =
     (layout : Layout) (zones : Zones) (k : ℕ) (entry : BlockPlan)
     → slice_get (plan_of layout zones) k ≡ Some entry → IsImage entry.content
     → image_before layout (take k (plan_of layout zones)) ≡ image_from entry.content

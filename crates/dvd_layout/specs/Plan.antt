@@ -56,22 +56,22 @@ abbrev pub second_data : Layout → Zone
 second_data layout = zone_of (second_first layout) (blocks_of layout.sectors1) DataZone 1 (Image layout.sectors0)
 
 -- the zone of zeros after a Data Zone
-abbrev pub behind : Zone → ℕ → Area → Zone
-behind image blocks area = zone_of (image.first + 16 * image.blocks) blocks area image.layer Zero
+abbrev pub zone_after : Zone → ℕ → Area → Zone
+zone_after image blocks area = zone_of (image.first + 16 * image.blocks) blocks area image.layer Zero
 
 -- a layer that is read from the inside
 abbrev pub inside_out : Layout → Zone → List Zone
-inside_out layout image = lead_in layout.initial image.layer ++ image ∷ behind image layout.tail LeadOut ∷ []
+inside_out layout image = lead_in layout.initial image.layer ++ image ∷ zone_after image layout.tail LeadOut ∷ []
 
 -- the opposite track path: out on layer 0, and back in on layer 1
 abbrev pub out_and_in : Layout → List Zone
 out_and_in layout =
     lead_in layout.initial 0
     ++ first_data layout
-    ∷ behind (first_data layout) layout.tail Middle
+    ∷ zone_after (first_data layout) layout.tail Middle
     ∷ zone_of (second_first layout - 16 * layout.tail) layout.tail Middle 1 Zero
     ∷ second_data layout
-    ∷ behind (second_data layout) layout.tail LeadOut ∷ []
+    ∷ zone_after (second_data layout) layout.tail LeadOut ∷ []
 
 -- the zones of a disk of this shape, in the order of a stream
 abbrev pub zones_by : Layout → Shape → List Zone
@@ -99,4 +99,4 @@ plan_of layout zones = flat_map entries_of (zone_table layout zones)
 pub record IsEntry (layout : Layout) (entry : BlockPlan) : Type 0 where
   pub zones : Zones
   pub place : ℕ
-  pub stands : slice_get (plan_of layout zones) place ≡ Some entry
+  pub is_there : slice_get (plan_of layout zones) place ≡ Some entry

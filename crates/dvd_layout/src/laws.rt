@@ -5,7 +5,7 @@
 //! Zones alone; an entry has the first of a block's sixteen sector numbers, its area, its layer and its content. A
 //! block of image has the sixteen image sectors from one on, or what is left of the image.
 ghost use Rattle.std.specs.Prelude.{ℕ};
-ghost use Rattle.dvd_layout.specs.Laws.{ControlDataStandInTheLeadIn, ImageIsWhole, ImageStandsInOrder, LayoutIsByLengths, LayoutsBreakNoRule, PlacesDiffer, PlanBeginsWithTheLeadIn, PlanFollowsPlaces, PlanNumbersHave24Bits};
+ghost use Rattle.dvd_layout.specs.Laws.{ControlDataIsInTheLeadIn, ImageIsWhole, ImageIsInOrder, LayoutIsByLengths, LayoutsBreakNoRule, PlacesDiffer, PlanBeginsWithTheLeadIn, PlanFollowsPlaces, PlanNumbersHave24Bits};
 
 /// A layout breaks no rule: of no value of the type `Layout` are the lengths such that `Layout::new` refuses them.
 pub fn layouts_break_no_rule()
@@ -27,8 +27,8 @@ pub fn plan_numbers_have_24_bits()
 /// The control data are in the lead-in, from sector 02F200 on: 192 blocks one after the other. Before them come the
 /// Initial Zone, of `initial` blocks, and 32 blocks of reference code and buffer, none of which is control data. So a
 /// reader of the lead-in knows when they come. It holds of any `initial`, also of one that no disk can have.
-pub fn control_data_stand_in_the_lead_in()
-    ensures { (initial : ℕ) → ControlDataStandInTheLeadIn initial }
+pub fn control_data_is_in_the_lead_in()
+    ensures { (initial : ℕ) → ControlDataIsInTheLeadIn initial }
 {}
 
 /// The plan of a disk, all zones of it, begins with the lead-in of layer 0, `initial` + 256 blocks, whatever the other
@@ -44,8 +44,8 @@ pub fn places_differ()
 
 /// The blocks before a block of image, in a plan of either kind, hold exactly as many image sectors as come before its
 /// first. So what is read or written block by block is the image in order.
-pub fn image_stands_in_order()
-    ensures { ImageStandsInOrder }
+pub fn image_is_in_order()
+    ensures { ImageIsInOrder }
 {}
 
 /// The blocks of a plan of either kind together hold as many image sectors as the image has.

@@ -65,9 +65,9 @@ impl Layout {
             1 => (self.second_first(), self.sectors1, self.sectors0),
             _ => return None,
         };
-        let behind = number.checked_sub(first)?;
-        if behind < sectors {
-            Some(before + behind)
+        let offset = number.checked_sub(first)?;
+        if offset < sectors {
+            Some(before + offset)
         } else {
             None
         }

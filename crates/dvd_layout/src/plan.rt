@@ -4,7 +4,7 @@
 ghost use Rattle.std.specs.Prelude.{◌≡◌, ◌+◌, ◌*◌, ◌^◌, ◌<◌, ◌≤◌, ◌++◌, length, Some, slice_get};
 ghost use Rattle.arrayvec.specs.ArrayVec.{array_vec_len};
 ghost use Rattle.dvd_layout.specs.Lengths.{blocks_of, most_initial};
-ghost use Rattle.dvd_layout.specs.Plan.{behind, first_data, inside_out, lead_in, lead_in_blocks, out_and_in, plan_of, second_data, second_first, zone_of, zone_table, zones_by};
+ghost use Rattle.dvd_layout.specs.Plan.{zone_after, first_data, inside_out, lead_in, lead_in_blocks, out_and_in, plan_of, second_data, second_first, zone_of, zone_table, zones_by};
 
 use crate::entry::{BlockPlan, Content};
 use crate::layout::{Layout, Shape, Zones, blocks_of};
@@ -81,7 +81,7 @@ impl Layout {
     }
 
     // Adds a layer that is read from the inside, with this Data Zone. The clause `numbers` leaves room in 32 bits for
-    // the sum in `behind`.
+    // the sum in `zone_after`.
     fn push_layer(&self, table: &mut ZoneTable, image: Zone)
         requires room { array_vec_len table.old ≤ 7 }
         requires numbers { image.first + 16 * image.blocks < 2 ^ 32 }
@@ -90,7 +90,7 @@ impl Layout {
     {
         push_lead_in(table, self.initial, image.layer);
         table.push(image);
-        table.push(behind(&image, self.tail, Area::LeadOut));
+        table.push(zone_after(&image, self.tail, Area::LeadOut));
     }
 
     // Adds both layers of the opposite track path. Layer 1 is read inwards from where layer 0 ended: its middle zone
@@ -106,10 +106,10 @@ impl Layout {
         let second = self.second_data();
         push_lead_in(table, self.initial, 0);
         table.push(first);
-        table.push(behind(&first, self.tail, Area::Middle));
+        table.push(zone_after(&first, self.tail, Area::Middle));
         table.push(zeros(second.first - 16 * self.tail, self.tail, Area::Middle, 1));
         table.push(second);
-        table.push(behind(&second, self.tail, Area::LeadOut));
+        table.push(zone_after(&second, self.tail, Area::LeadOut));
     }
 
     // The Data Zone of layer 0, with the image from its first sector on.
@@ -203,9 +203,9 @@ fn zeros(first: u32, blocks: u32, area: Area, layer: u8) -> Zone
 }
 
 // The zone of zeros after a Data Zone, on the same layer. Its area depends on the shape, so that callers give it.
-fn behind(image: &Zone, blocks: u32, area: Area) -> Zone
+fn zone_after(image: &Zone, blocks: u32, area: Area) -> Zone
     requires { image.now.first + 16 * image.now.blocks < 2 ^ 32 }
-    ensures { result ≡ behind image.now blocks area }
+    ensures { result ≡ zone_after image.now blocks area }
 {
     zeros(image.first + 16 * image.blocks, blocks, area, image.layer)
 }

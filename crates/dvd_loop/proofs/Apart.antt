@@ -5,12 +5,12 @@ use Rattle.std.proofs.lemmas.List.{drop-drop, length-drop, length-take-le, take-
 use Rattle.dvd_loop.specs.Laws.{IsFaultless, IsPrefixOf, IsNever, first}
 use Rattle.dvd_loop.specs.Machine.{Performs, Continues, ContinuesAfter, IsOutcome, IsUnit, IsEndedWithin, Outcome, Step, Units, bad_of, ended, sized, taking}
 use Rattle.dvd_loop.specs.Machine.Prefix.{Whole, Cut, Broken}
-use Rattle.dvd_loop.specs.UnitCommand.{told, written}
+use Rattle.dvd_loop.specs.UnitCommand.{reported, written}
 use Rattle.dvd_loop.specs.declared.ends.LoopEnd.TheVariants.{Done}
 use Rattle.dvd_loop.specs.declared.ends.UnitKind.{UnitKind}
 use Rattle.dvd_loop.specs.declared.ends.UnitKind.TheVariants.{Last}
-use Rattle.dvd_loop.proofs.Faultless.{all_done, faultless_behind, short_or_broken}
-use Rattle.dvd_loop.proofs.Fronts.{same_front, same_left}
+use Rattle.dvd_loop.proofs.Faultless.{all_done, faultless_after, short_or_broken}
+use Rattle.dvd_loop.proofs.Prefixes.{same_prefix, same_left}
 use Rattle.dvd_loop.proofs.Reached.{goes_further, goes_on, taken_unit}
 use Rattle.dvd_loop.proofs.Sizes.{broken_stays, sized_whole, whole_stays}
 use Rattle.dvd_loop.proofs.StepLemmas.{onto}
@@ -31,16 +31,16 @@ pub record TakesUnit (units : Units) (own : ℕ → List ℕ) (bytes : List ℕ)
   pub alone : Outcome
   pub runs : IsOutcome (first k units) bytes alone
   pub ends : alone.end ≡ Done
-  pub runs_on : IsOutcome (first (k + 1) units) bytes (record alone { taken = alone.taken ++ own k; out = alone.out ++ written steps; lines = alone.lines ++ told steps })
+  pub runs_on : IsOutcome (first (k + 1) units) bytes (record alone { taken = alone.taken ++ own k; out = alone.out ++ written steps; lines = alone.lines ++ reported steps })
   pub out : IsPrefixOf (alone.out ++ written steps) a.out
-  pub lines : IsPrefixOf (alone.lines ++ told steps) a.lines
+  pub lines : IsPrefixOf (alone.lines ++ reported steps) a.lines
 
 -- an outcome with one unit more after it
 abbrev and_unit : List ℕ → List Step → Outcome → Outcome
-and_unit own steps outcome = record outcome { taken = outcome.taken ++ own; out = outcome.out ++ written steps; lines = outcome.lines ++ told steps }
+and_unit own steps outcome = record outcome { taken = outcome.taken ++ own; out = outcome.out ++ written steps; lines = outcome.lines ++ reported steps }
 
 -- where nothing else was taken or done, a unit before the end is one after it
-onto_done : (own : List ℕ) (steps : List Step) → onto own (written steps) (told steps) (ended Done) ≡ and_unit own steps (ended Done)
+onto_done : (own : List ℕ) (steps : List Step) → onto own (written steps) (reported steps) (ended Done) ≡ and_unit own steps (ended Done)
 onto_done own steps = simp append-nil
 
 -- it is the same whether what came before or the unit after it is put on first
@@ -56,9 +56,9 @@ each_later k own more parts is each zero lt = is
 each_later k own more parts is each (suc j) lt = each j (omega arith)
 
 -- a front of what comes after a piece is, after that piece, a front of all
-front_later : (own front more whole all : List ℕ) → all ≡ own ++ whole → IsPrefixOf (front ++ more) whole
-    → IsPrefixOf ((own ++ front) ++ more) all
-front_later own front more whole all is (left, so) = (left, is ∙ ap (λ l. own ++ l) so ∙ simp append_assoc)
+prefix_later : (own prefix more whole all : List ℕ) → all ≡ own ++ whole → IsPrefixOf (prefix ++ more) whole
+    → IsPrefixOf ((own ++ prefix) ++ more) all
+prefix_later own prefix more whole all is (left, so) = (left, is ∙ ap (λ l. own ++ l) so ∙ simp append_assoc)
 
 module _ (units : Units) (never : IsNever units Last)
     (stays : (k : ℕ) (own more : List ℕ) → units.begins k own ≡ Whole (length own) → units.begins k (own ++ more) ≡ Whole (length own))
@@ -70,7 +70,7 @@ module _ (units : Units) (never : IsNever units Last)
     unit : IsUnit units before own steps kind
     after : Outcome
     goes : Continues units n (before ++ own ∷ []) (bad + bad_of kind) left after
-    is : outcome ≡ onto own (written steps) (told steps) after
+    is : outcome ≡ onto own (written steps) (reported steps) after
     faultless : IsFaultless after.end
 
   -- without a fault no loop ends within a unit that is whole
@@ -80,8 +80,8 @@ module _ (units : Units) (never : IsNever units Last)
       let all : units.begins k (own ++ left) ≡ Whole (length own) = stays k own left whole in
       elim (short_or_broken units k (own ++ left) a w none) [
         | inl (cut, is) ↦ (let no : Cut ≡ Whole (length own) = sym cut ∙ all in cc)
-        | inr (at, front, more, is, broken, ends) ↦
-            (let no : Broken at ≡ Whole (length own) = sym (breaks k at front more broken) ∙ ap (units.begins k) (sym is) ∙ all in cc)
+        | inr (at, prefix, more, is, broken, ends) ↦
+            (let no : Broken at ≡ Whole (length own) = sym (breaks k at prefix more broken) ∙ ap (units.begins k) (sym is) ∙ all in cc)
       ]
 
   -- a unit that was taken is not the last
@@ -97,10 +97,10 @@ module _ (units : Units) (never : IsNever units Last)
     | inl w ↦ absurd (not_within (length before) own left a whole w none)
     | inr t ↦
         let all = stays (length before) own left whole in
-        let so = subst (λ l. units.begins (length before) l ≡ Whole (length t.own)) (sym t.front) (stays (length before) t.own t.left t.unit.whole) in
+        let so = subst (λ l. units.begins (length before) l ≡ Whole (length t.own)) (sym t.prefix) (stays (length before) t.own t.left t.unit.whole) in
         let size : length t.own ≡ length own = (let is : Whole (length t.own) ≡ Whole (length own) = sym so ∙ all in cc) in
-        let same = same_front t.own own t.left left (sym t.front) size in
-        let rest = same_left t.own own t.left left (sym t.front) same in
+        let same = same_prefix t.own own t.left left (sym t.prefix) size in
+        let rest = same_left t.own own t.left left (sym t.prefix) same in
         let unit : IsUnit units before own t.steps t.kind = subst (λ l. IsUnit units before l t.steps t.kind) same t.unit in
         let Next : Outcome → Type 0 = Continues units n (before ++ own ∷ []) (bad + bad_of t.kind) left in
         let does : Performs t.steps (ContinuesAfter t.kind Next) t.after =
@@ -116,14 +116,14 @@ module _ (units : Units) (never : IsNever units Last)
           after = done.after;
           goes = goes_further t.kind Next done.after (not_last before own t.steps t.kind unit) done.holds;
           is = takes ∙ ap (taking own) done.is;
-          faultless = faultless_behind t.steps (ContinuesAfter t.kind Next) t.after done faultless;
+          faultless = faultless_after t.steps (ContinuesAfter t.kind Next) t.after done faultless;
         }
   ]
 
   -- a run of the first units alone goes through a unit that was taken
   through : (count n m : ℕ) (before : List (List ℕ)) (bad : ℕ) (own left : List ℕ) (a : Outcome) (t : TakesOne n before bad own left a) (after : Outcome)
       → Continues (first count units) m (before ++ own ∷ []) (bad + bad_of t.kind) left after
-      → Continues (first count units) (suc m) before bad (own ++ left) (onto own (written t.steps) (told t.steps) after)
+      → Continues (first count units) (suc m) before bad (own ++ left) (onto own (written t.steps) (reported t.steps) after)
   through count n m before bad own left a t after goes =
       taken_unit (first count units) m before own left t.steps t.kind bad after (record { whole = t.unit.whole; does = t.unit.does })
       (goes_on t.kind (Continues (first count units) m (before ++ own ∷ []) (bad + bad_of t.kind) left) after (not_last before own t.steps t.kind t.unit) goes)
@@ -146,7 +146,7 @@ module _ (units : Units) (never : IsNever units Last)
     ends : alone.end ≡ Done
     runs_on : (count : ℕ) → Continues (first count units) (suc k) before bad bytes (and_unit (own k) steps alone)
     out : IsPrefixOf (alone.out ++ written steps) a.out
-    lines : IsPrefixOf (alone.lines ++ told steps) a.lines
+    lines : IsPrefixOf (alone.lines ++ reported steps) a.lines
 
   -- the unit at hand
   reaches_one : (own : ℕ → List ℕ) (n : ℕ) (before : List (List ℕ)) (bad : ℕ) (left : List ℕ) (a : Outcome)
@@ -180,14 +180,14 @@ module _ (units : Units) (never : IsNever units Last)
     steps = r.steps;
     kind = r.kind;
     unit = subst (λ l. IsUnit units l (own (suc k)) r.steps r.kind) (append_assoc before (own 0 ∷ []) r.more) r.unit;
-    alone = onto (own 0) (written t.steps) (told t.steps) r.alone;
+    alone = onto (own 0) (written t.steps) (reported t.steps) r.alone;
     runs = λ count. through count n k before bad (own 0) left a t r.alone (r.runs count);
     ends = r.ends;
     runs_on = λ count.
-        subst (Continues (first count units) (suc (suc k)) before bad (own 0 ++ left)) (onto_and (own 0) (written t.steps) (told t.steps) (own (suc k)) r.steps r.alone)
+        subst (Continues (first count units) (suc (suc k)) before bad (own 0 ++ left)) (onto_and (own 0) (written t.steps) (reported t.steps) (own (suc k)) r.steps r.alone)
         (through count n (suc k) before bad (own 0) left a t (and_unit (own (suc k)) r.steps r.alone) (r.runs_on count));
-    out = front_later (written t.steps) r.alone.out (written r.steps) t.after.out a.out (ap (λ (o : Outcome). o.out) t.is) r.out;
-    lines = front_later (told t.steps) r.alone.lines (told r.steps) t.after.lines a.lines (ap (λ (o : Outcome). o.lines) t.is) r.lines;
+    out = prefix_later (written t.steps) r.alone.out (written r.steps) t.after.out a.out (ap (λ (o : Outcome). o.out) t.is) r.out;
+    lines = prefix_later (reported t.steps) r.alone.lines (reported r.steps) t.after.lines a.lines (ap (λ (o : Outcome). o.lines) t.is) r.lines;
   }
 
   -- from the bytes of one unit on there are whole ones

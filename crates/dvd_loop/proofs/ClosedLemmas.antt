@@ -1,16 +1,16 @@
 -- A loop and its closing line.
 use Rattle.std.proofs.Common.{◌≡◌, inl, inr, ℕ, List, [], ◌∷◌, refl, ap, sym, subst, ◌∙◌}
 use Rattle.dvd_loop.specs.Machine.{Closes, Performs, IsClosed, Outcome, ended}
-use Rattle.dvd_loop.specs.Machine.Step.{Tell}
+use Rattle.dvd_loop.specs.Machine.Step.{Report}
 use Rattle.dvd_loop.specs.Streams.{Counts, HaveCauses, SourceCounts, Streams, is_report_fault, is_write_fault}
 use Rattle.dvd_loop.specs.declared.ends.LoopEnd.{LoopEnd}
 use Rattle.dvd_loop.specs.declared.ends.LoopEnd.TheVariants.{ReportFault}
 use Rattle.dvd_loop.proofs.StepLemmas.{and_then}
 
 -- a line that is reported takes nothing of the input
-line_takes : (line : List ℕ) (end : LoopEnd) (outcome : Outcome) → Performs (Tell line ∷ []) (λ after. after ≡ ended end) outcome → outcome.taken ≡ []
+line_takes : (line : List ℕ) (end : LoopEnd) (outcome : Outcome) → Performs (Report line ∷ []) (λ after. after ≡ ended end) outcome → outcome.taken ≡ []
 line_takes line end outcome does = elim does [
-  | inl (front, left, whole, some, is) ↦ ap (λ (o : Outcome). o.taken) is
+  | inl (prefix, left, whole, some, is) ↦ ap (λ (o : Outcome). o.taken) is
   | inr (after, is, taken) ↦ (ap (λ (o : Outcome). o.taken) taken ∙ ap (λ (o : Outcome). o.taken) is)
 ]
 

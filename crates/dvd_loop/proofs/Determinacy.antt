@@ -3,14 +3,14 @@ use Rattle.std.proofs.Common.{◌≡◌, inl, inr, ◌⊎◌, ℕ, zero, suc, �
 use Rattle.dvd_loop.specs.Laws.{AreDetermined, IsFaultless, IsNotBadMarks, OutcomesAgree}
 use Rattle.dvd_loop.specs.Machine.{Performs, EndsAfterLast, Continues, ContinuesAfter, IsTaken, IsUnit, IsEndedWithin, Outcome, Step, Units, bad_of, end_by, ended, taking}
 use Rattle.dvd_loop.specs.Machine.Prefix.{Whole, Cut, Broken}
-use Rattle.dvd_loop.specs.UnitCommand.{told, written}
+use Rattle.dvd_loop.specs.UnitCommand.{reported, written}
 use Rattle.dvd_loop.specs.declared.ends.AfterLast.{AfterLast}
 use Rattle.dvd_loop.specs.declared.ends.AfterLast.TheVariants as after_last
 use Rattle.dvd_loop.specs.declared.ends.LoopEnd.TheVariants.{BadMarks, Long, ReadFault}
 use Rattle.dvd_loop.specs.declared.ends.UnitKind.{UnitKind}
 use Rattle.dvd_loop.specs.declared.ends.UnitKind.TheVariants.{Good, Bad, Last}
-use Rattle.dvd_loop.proofs.Faultless.{all_done, faultless_behind, not_by_fault, short_or_broken}
-use Rattle.dvd_loop.proofs.Fronts.{same_front, same_left}
+use Rattle.dvd_loop.proofs.Faultless.{all_done, faultless_after, not_by_fault, short_or_broken}
+use Rattle.dvd_loop.proofs.Prefixes.{same_prefix, same_left}
 use Rattle.dvd_loop.proofs.StepLemmas.{onto}
 
 -- They are one, but for what was taken of a unit that breaks a rule.
@@ -51,7 +51,7 @@ steps_agree : (steps : List Step) (A B : Outcome → Type 0) → AllAgree A B �
 steps_agree steps A B agree a b does others p q =
     let x = all_done steps A a does p in
     let y = all_done steps B b others q in
-    agree_as a b _ _ x.is y.is (onto_agree [] (written steps) (told steps) x.after y.after (agree x.after y.after x.holds y.holds (faultless_behind steps A a x p) (faultless_behind steps B b y q)))
+    agree_as a b _ _ x.is y.is (onto_agree [] (written steps) (reported steps) x.after y.after (agree x.after y.after x.holds y.holds (faultless_after steps A a x p) (faultless_after steps B b y q)))
 
 -- whether the unit was the last or not, outcomes after it agree where those of the units to come do
 kinds_agree : (kind : UnitKind) (A : Outcome → Type 0) → AllAgree A A → AllAgree (ContinuesAfter kind A) (ContinuesAfter kind A)
@@ -71,7 +71,7 @@ by_no_fault x a b p q none other = elim p [
 ]
 
 -- outcomes after the last unit agree
-behind_agree : (stands : AfterLast) (bad : ℕ) (left : List ℕ) → AllAgree (EndsAfterLast stands bad left) (EndsAfterLast stands bad left)
+behind_agree : (rule : AfterLast) (bad : ℕ) (left : List ℕ) → AllAgree (EndsAfterLast rule bad left) (EndsAfterLast rule bad left)
 behind_agree after_last.Done bad left a b p q none other = same_agree a b (p ∙ sym q)
 behind_agree after_last.NoControl bad left a b p q none other = same_agree a b (p ∙ sym q)
 behind_agree after_last.EndOfInput bad [] a b p q none other = by_no_fault (ended (end_by bad)) a b p q none other
@@ -80,7 +80,7 @@ behind_agree after_last.EndOfInput bad (byte ∷ left) a b p q none other = by_n
 module _ (units : Units) (det : AreDetermined units) where
   -- bytes that break a rule in front break it in all
   all_broken : (k at : ℕ) (bytes own left : List ℕ) → bytes ≡ own ++ left → units.begins k own ≡ Broken at → units.begins k bytes ≡ Broken at
-  all_broken k at bytes own left front broken = subst (λ l. units.begins k l ≡ Broken at) (sym front) (det.broken k at own left broken)
+  all_broken k at bytes own left prefix broken = subst (λ l. units.begins k l ≡ Broken at) (sym prefix) (det.broken k at own left broken)
 
   -- two loops that end within unit k of the same bytes agree: both are short, or both stop at the same broken place
   within_agree : (k : ℕ) (bytes : List ℕ) → AllAgree (IsEndedWithin units k bytes) (IsEndedWithin units k bytes)
@@ -88,10 +88,10 @@ module _ (units : Units) (det : AreDetermined units) where
       elim (short_or_broken units k bytes a w none) [
         | inl (cut, is) ↦ elim (short_or_broken units k bytes b v other) [
           | inl (same, so) ↦ same_agree a b (is ∙ sym so)
-          | inr (at, own, left, front, broken, so) ↦ absurd (let no : Cut ≡ Broken at = sym cut ∙ all_broken k at bytes own left front broken in cc)
+          | inr (at, own, left, prefix, broken, so) ↦ absurd (let no : Cut ≡ Broken at = sym cut ∙ all_broken k at bytes own left prefix broken in cc)
         ]
-        | inr (at, own, left, front, broken, is) ↦
-            let all = all_broken k at bytes own left front broken in
+        | inr (at, own, left, prefix, broken, is) ↦
+            let all = all_broken k at bytes own left prefix broken in
             elim (short_or_broken units k bytes b v other) [
               | inl (cut, so) ↦ absurd (let no : Cut ≡ Broken at = sym cut ∙ all in cc)
               | inr (place, held, rest, second, same, so) ↦ agree_as a b _ _ is so (record {
@@ -106,13 +106,13 @@ module _ (units : Units) (det : AreDetermined units) where
   -- bytes with a whole unit in front begin with it
   whole_unit : (k : ℕ) (bytes own left : List ℕ) → bytes ≡ own ++ left → units.begins k own ≡ Whole (length own)
       → units.begins k bytes ≡ Whole (length own)
-  whole_unit k bytes own left front whole = subst (λ l. units.begins k l ≡ Whole (length own)) (sym front) (det.whole k own left whole)
+  whole_unit k bytes own left prefix whole = subst (λ l. units.begins k l ≡ Whole (length own)) (sym prefix) (det.whole k own left whole)
 
   -- bytes that begin with a whole unit k don't end within it
   not_both : {A : Type 0} (k : ℕ) (bytes own left : List ℕ) (a : Outcome) → IsEndedWithin units k bytes a → IsFaultless a.end
       → bytes ≡ own ++ left → units.begins k own ≡ Whole (length own) → A
-  not_both k bytes own left a w none front whole =
-      let all = whole_unit k bytes own left front whole in
+  not_both k bytes own left a w none prefix whole =
+      let all = whole_unit k bytes own left prefix whole in
       elim (short_or_broken units k bytes a w none) [
         | inl (cut, is) ↦ absurd (let no : Cut ≡ Whole (length own) = sym cut ∙ all in cc)
         | inr (at, held, rest, second, broken, is) ↦ absurd (let no : Broken at ≡ Whole (length own) = sym (all_broken k at bytes held rest second broken) ∙ all in cc)
@@ -123,11 +123,11 @@ module _ (units : Units) (det : AreDetermined units) where
       → ((own left : List ℕ) (kind : UnitKind) → AllAgree (After own left kind) (After own left kind))
       → (bytes : List ℕ) → AllAgree (IsTaken units before After bytes) (IsTaken units before After bytes)
   taken_agree before After agree bytes a b t s none other =
-      let whole = whole_unit (length before) bytes t.own t.left t.front t.unit.whole in
-      let so = whole_unit (length before) bytes s.own s.left s.front s.unit.whole in
+      let whole = whole_unit (length before) bytes t.own t.left t.prefix t.unit.whole in
+      let so = whole_unit (length before) bytes s.own s.left s.prefix s.unit.whole in
       let same : length t.own ≡ length s.own = (let is : Whole (length t.own) ≡ Whole (length s.own) = sym whole ∙ so in cc) in
-      let own = same_front t.own s.own t.left s.left (sym t.front ∙ s.front) same in
-      let left = same_left t.own s.own t.left s.left (sym t.front ∙ s.front) own in
+      let own = same_prefix t.own s.own t.left s.left (sym t.prefix ∙ s.prefix) same in
+      let left = same_left t.own s.own t.left s.left (sym t.prefix ∙ s.prefix) own in
       let does = det.does before t.own t.steps s.steps t.kind s.kind t.unit (subst (λ l. IsUnit units before l s.steps s.kind) (sym own) s.unit) in
       let others : Performs t.steps (After t.own t.left t.kind) s.after =
       subst (λ l. Performs t.steps (After l t.left t.kind) s.after) (sym own) (subst (λ l. Performs t.steps (After s.own l t.kind) s.after) (sym left)
@@ -145,10 +145,10 @@ module _ (units : Units) (det : AreDetermined units) where
   goes_agree (suc n) before bad bytes a b goes others none other = elim goes [
     | inl w ↦ elim others [
       | inl v ↦ within_agree (length before) bytes a b w v none other
-      | inr s ↦ not_both (length before) bytes s.own s.left a w none s.front s.unit.whole
+      | inr s ↦ not_both (length before) bytes s.own s.left a w none s.prefix s.unit.whole
     ]
     | inr t ↦ elim others [
-      | inl v ↦ not_both (length before) bytes t.own t.left b v other t.front t.unit.whole
+      | inl v ↦ not_both (length before) bytes t.own t.left b v other t.prefix t.unit.whole
       | inr s ↦ taken_agree before (λ own left kind. ContinuesAfter kind (Continues units n (before ++ own ∷ []) (bad + bad_of kind) left))
           (λ own left kind. kinds_agree kind (Continues units n (before ++ own ∷ []) (bad + bad_of kind) left) (goes_agree n (before ++ own ∷ []) (bad + bad_of kind) left)) bytes a b t s none other
     ]

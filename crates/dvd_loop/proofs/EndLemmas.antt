@@ -6,8 +6,8 @@ use Rattle.dvd_ports.specs.Seen.{Seen}
 use Rattle.dvd_ports.specs.Whole.{AppendsPrefix}
 use Rattle.dvd_ports.proofs.KnownLemmas.{Appends-none}
 use Rattle.dvd_loop.specs.Machine.{Closes, Performs, EndsAfterLast, Outcome, end_by, ended, stepping, taking}
-use Rattle.dvd_loop.specs.Machine.Step.{Tell}
-use Rattle.dvd_loop.specs.Streams.{HaveReached, Counts, IsTold, Streams, is_report_fault, streams}
+use Rattle.dvd_loop.specs.Machine.Step.{Report}
+use Rattle.dvd_loop.specs.Streams.{HaveReached, Counts, AreKnown, Streams, is_report_fault, streams}
 use Rattle.dvd_loop.specs.declared.ends.AfterLast.{AfterLast}
 use Rattle.dvd_loop.specs.declared.ends.AfterLast.TheVariants.{EndOfInput}
 use Rattle.dvd_loop.specs.declared.ends.LoopEnd.{LoopEnd}
@@ -25,7 +25,7 @@ pub not_asked : (after_last : AfterLast) (bad : ℕ) (old : Streams) (end : Loop
     → HaveReached (EndsAfterLast after_last bad) old old end
 not_asked after_last bad old end ends = record {
   bytes = (left_of old.source.bytes).0;
-  told = (left_of old.source.bytes).1;
+  known = (left_of old.source.bytes).1;
   outcome = ended end;
   holds = ends (left_of old.source.bytes).0;
   ends = refl;
@@ -39,11 +39,11 @@ module _ (bad : ℕ) (source new_source output report : Seen) (own : List ℕ) (
   asked_end end none at_end is =
       let nothing = empty own none in record {
         bytes = [];
-        told = subst (λ l. IsTold source.bytes (l ++ [])) nothing (told_before source.bytes new_source.bytes own [] reads (none_left new_source.bytes at_end));
+        known = subst (λ l. AreKnown source.bytes (l ++ [])) nothing (told_before source.bytes new_source.bytes own [] reads (none_left new_source.bytes at_end));
         outcome = ended end;
         holds = inl (ap ended is);
         ends = refl;
-        moved = record { reads = subst (Consumes source.bytes new_source.bytes) nothing reads; writes = Appends-none output.bytes; tells = Appends-none report.bytes };
+        moved = record { reads = subst (Consumes source.bytes new_source.bytes) nothing reads; writes = Appends-none output.bytes; reports = Appends-none report.bytes };
       }
 
   -- a list of length 1 is one number
@@ -58,11 +58,11 @@ module _ (bad : ℕ) (source new_source output report : Seen) (own : List ℕ) (
       let byte = one own is in
       let left = left_of new_source.bytes in record {
         bytes = byte.0 ∷ left.0;
-        told = subst (λ l. IsTold source.bytes (l ++ left.0)) byte.1 (told_before source.bytes new_source.bytes own left.0 reads left.1);
+        known = subst (λ l. AreKnown source.bytes (l ++ left.0)) byte.1 (told_before source.bytes new_source.bytes own left.0 reads left.1);
         outcome = taking (byte.0 ∷ []) (ended Long);
         holds = inl refl;
         ends = refl;
-        moved = record { reads = subst (Consumes source.bytes new_source.bytes) byte.1 reads; writes = Appends-none output.bytes; tells = Appends-none report.bytes };
+        moved = record { reads = subst (Consumes source.bytes new_source.bytes) byte.1 reads; writes = Appends-none output.bytes; reports = Appends-none report.bytes };
       }
 
   -- a failed read of one byte more may end any input, with bytes left or without
@@ -76,16 +76,16 @@ module _ (bad : ℕ) (source new_source output report : Seen) (own : List ℕ) (
       let nothing = empty own (omega arith) in
       let left = left_of new_source.bytes in record {
         bytes = left.0;
-        told = subst (λ l. IsTold source.bytes (l ++ left.0)) nothing (told_before source.bytes new_source.bytes own left.0 reads left.1);
+        known = subst (λ l. AreKnown source.bytes (l ++ left.0)) nothing (told_before source.bytes new_source.bytes own left.0 reads left.1);
         outcome = ended ReadFault;
         holds = by_fault left.0;
         ends = refl;
-        moved = record { reads = subst (Consumes source.bytes new_source.bytes) nothing reads; writes = Appends-none output.bytes; tells = Appends-none report.bytes };
+        moved = record { reads = subst (Consumes source.bytes new_source.bytes) nothing reads; writes = Appends-none output.bytes; reports = Appends-none report.bytes };
       }
 
 -- the closing line of an end that isn't a fault of the report
 closes_as : (closing : LoopEnd → List ℕ) (end : LoopEnd) (outcome : Outcome) → end ≢ ReportFault
-    → Performs (Tell (closing end) ∷ []) (λ after. after ≡ ended end) outcome → Closes closing end outcome
+    → Performs (Report (closing end) ∷ []) (λ after. after ≡ ended end) outcome → Closes closing end outcome
 closes_as closing ReportFault outcome not does = absurd (not refl)
 closes_as closing end outcome not does = does
 
@@ -102,13 +102,13 @@ module _ (closing : LoopEnd → List ℕ) (end : LoopEnd) (not : end ≢ ReportF
   -- the closing line was reported: the loop ends as it did before it
   pub closed_line : Appends report.bytes new_report.bytes (closing end)
       → HaveReached (λ bytes. Closes closing end) (streams source output report) (streams source output new_report) end
-  closed_line tells =
-      comes_of_none (Closes closing end) (streams source output report) (streams source output new_report) (stepping (Tell (closing end)) (ended end))
-      (closes_as closing end _ not (inr (ended end, refl, refl))) (step_told source output report new_report (closing end) tells)
+  closed_line reports =
+      comes_of_none (Closes closing end) (streams source output report) (streams source output new_report) (stepping (Report (closing end)) (ended end))
+      (closes_as closing end _ not (inr (ended end, refl, refl))) (step_told source output report new_report (closing end) reports)
 
   -- the report failed within the closing line: the loop ends in a fault of the report
   pub closed_fault : AppendsPrefix report.bytes new_report.bytes (closing end)
       → HaveReached (λ bytes. Closes closing end) (streams source output report) (streams source output new_report) ReportFault
   closed_fault begun =
-      comes_of_none (Closes closing end) (streams source output report) (streams source output new_report) (stepping (Tell begun.taken) (ended ReportFault))
+      comes_of_none (Closes closing end) (streams source output report) (streams source output new_report) (stepping (Report begun.taken) (ended ReportFault))
       (closes_as closing end _ not (inl (begun.taken, begun.rest, sym begun.whole, begun.more, refl))) (step_told source output report new_report begun.taken begun.grows)

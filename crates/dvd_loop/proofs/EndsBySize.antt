@@ -4,13 +4,13 @@ use Rattle.std.proofs.Math.Nat.{mul-le-mul_right, suc-mul, zero-mul}
 use Rattle.std.proofs.Math.Seq.{take-append-add}
 use Rattle.std.proofs.lemmas.Bool.{cases_lt}
 use Rattle.std.proofs.lemmas.List.{take_all}
-use Rattle.dvd_loop.specs.Laws.{AreOfOneSize, EndsBySize, IsFaultless, IsOver, TellsLength}
+use Rattle.dvd_loop.specs.Laws.{AreOfOneSize, EndsBySize, IsFaultless, IsOver, GivesLength}
 use Rattle.dvd_loop.specs.Machine.{EndsAfterLast, Continues, IsUnit, Outcome, Step, Units, bad_of, end_by, ended, taking}
-use Rattle.dvd_loop.specs.UnitCommand.{told, written}
+use Rattle.dvd_loop.specs.UnitCommand.{reported, written}
 use Rattle.dvd_loop.specs.declared.ends.AfterLast.TheVariants.{EndOfInput}
 use Rattle.dvd_loop.specs.declared.ends.LoopEnd.TheVariants.{Long, Short}
 use Rattle.dvd_loop.specs.declared.ends.UnitKind.TheVariants.{Last}
-use Rattle.dvd_loop.proofs.Faultless.{all_done, faultless_behind, not_by_fault}
+use Rattle.dvd_loop.proofs.Faultless.{all_done, faultless_after, not_by_fault}
 use Rattle.dvd_loop.proofs.Sizes.{goes_one}
 use Rattle.dvd_loop.proofs.StepLemmas.{onto}
 
@@ -78,7 +78,7 @@ module _ (units : Units) (size : ℕ) (are : AreOfOneSize units size) where
   goes_end zero before bad bytes a (steps, closes, does) none =
       let done = all_done steps (EndsAfterLast units.after_last bad bytes) a does none in
       let holds = subst (λ b. EndsAfterLast b bad bytes done.after) are.asks done.holds in
-      let ends = ends_behind size (length before) bad bytes done.after holds (faultless_behind steps (EndsAfterLast units.after_last bad bytes) a done none) in
+      let ends = ends_behind size (length before) bad bytes done.after holds (faultless_after steps (EndsAfterLast units.after_last bad bytes) a done none) in
       ends_as size (length before) 0 bytes a _ done.is (record { taken = ends.taken; by = ends.by })
   goes_end (suc n) before bad bytes a goes none =
       let not_last = λ (own : List ℕ) (steps : List Step) (unit : IsUnit units before own steps Last). are.never_last (length before) before own steps unit.does in
@@ -86,8 +86,8 @@ module _ (units : Units) (size : ℕ) (are : AreOfOneSize units size) where
         | inl short ↦ ends_short size (length before) n bytes a short.fewer short.is
         | inr t ↦
             let count : length (before ++ t.own ∷ []) ≡ length before + 1 = length-append before (t.own ∷ []) in
-            subst (λ l. Ends (suc n) size (length before) l a) (sym t.front)
-            (ends_later size (length before) n t.own t.left (written t.steps) (told t.steps) a t.after t.size_is t.is
+            subst (λ l. Ends (suc n) size (length before) l a) (sym t.prefix)
+            (ends_later size (length before) n t.own t.left (written t.steps) (reported t.steps) a t.after t.size_is t.is
             (subst (λ k. Ends n size k t.left t.after) count (goes_end n (before ++ t.own ∷ []) (bad + bad_of t.kind) t.left t.after t.goes t.faultless)))
       ]
 
@@ -112,8 +112,8 @@ short_is j k held other is =
     (omega arith, cc)
 
 -- such an end says how long the input is
-tells : (count size : ℕ) (bytes : List ℕ) (a : Outcome) → Ends count size 0 bytes a → TellsLength count size bytes a
-tells count size bytes a ends =
+reports : (count size : ℕ) (bytes : List ℕ) (a : Outcome) → Ends count size 0 bytes a → GivesLength count size bytes a
+reports count size bytes a ends =
     let Within : ℕ → ℕ → Type 0 = λ k held. (k < count) × (held < size) × (length bytes ≡ k * size + held) in record {
       short = λ k held. (
         λ is. elim ends.by [
@@ -164,5 +164,5 @@ tells count size bytes a ends =
 pub ends_so : (units : Units) → EndsBySize units
 ends_so units size are bytes a runs none =
     let done = all_done units.opens (Continues units units.count [] 0 bytes) a runs none in
-    let ends = goes_end units size are units.count [] 0 bytes done.after done.holds (faultless_behind units.opens (Continues units units.count [] 0 bytes) a done none) in
-    tells units.count size bytes a (ends_as size 0 units.count bytes a _ done.is (record { taken = ends.taken; by = ends.by }))
+    let ends = goes_end units size are units.count [] 0 bytes done.after done.holds (faultless_after units.opens (Continues units units.count [] 0 bytes) a done none) in
+    reports units.count size bytes a (ends_as size 0 units.count bytes a _ done.is (record { taken = ends.taken; by = ends.by }))

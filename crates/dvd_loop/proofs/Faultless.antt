@@ -3,8 +3,8 @@ use Rattle.std.proofs.Common.{◌≡◌, inl, inr, ◌⊎◌, ℕ, List, [], ◌
 use Rattle.dvd_loop.specs.Laws.{IsFaultless}
 use Rattle.dvd_loop.specs.Machine.{Performs, EndsWithin, Fails, IsEndedWithin, Outcome, Step, Units, ended, stepping, taking}
 use Rattle.dvd_loop.specs.Machine.Prefix.{Whole, Cut, Broken}
-use Rattle.dvd_loop.specs.Machine.Step.{Write, Tell}
-use Rattle.dvd_loop.specs.UnitCommand.{told, written}
+use Rattle.dvd_loop.specs.Machine.Step.{Write, Report}
+use Rattle.dvd_loop.specs.UnitCommand.{reported, written}
 use Rattle.dvd_loop.specs.declared.ends.LoopEnd.{LoopEnd}
 use Rattle.dvd_loop.specs.declared.ends.LoopEnd.TheVariants.{BadMarks, ReportFault, Short, WriteFault}
 use Rattle.dvd_loop.proofs.StepLemmas.{onto}
@@ -29,7 +29,7 @@ no_step_fault end none = tt
 pub record AllDone (steps : List Step) (After : Outcome → Type 0) (outcome : Outcome) : Type 0 where
   pub after : Outcome
   pub holds : After after
-  pub is : outcome ≡ onto [] (written steps) (told steps) after
+  pub is : outcome ≡ onto [] (written steps) (reported steps) after
 
 -- a step that was taken, and all those after it, are all taken
 done_first : (step : Step) (steps : List Step) (After : Outcome → Type 0) (outcome after : Outcome) → outcome ≡ stepping step after
@@ -37,23 +37,23 @@ done_first : (step : Step) (steps : List Step) (After : Outcome → Type 0) (out
 done_first (Write bytes) steps After outcome after is rest = record {
   after = rest.after;
   holds = rest.holds;
-  is = is ∙ ap (stepping (Write bytes)) rest.is ∙ ap (λ l. record rest.after { out = l; lines = told steps ++ rest.after.lines }) (sym (append_assoc bytes (written steps) rest.after.out));
+  is = is ∙ ap (stepping (Write bytes)) rest.is ∙ ap (λ l. record rest.after { out = l; lines = reported steps ++ rest.after.lines }) (sym (append_assoc bytes (written steps) rest.after.out));
 }
-done_first (Tell line) steps After outcome after is rest = record {
+done_first (Report line) steps After outcome after is rest = record {
   after = rest.after;
   holds = rest.holds;
-  is = is ∙ ap (stepping (Tell line)) rest.is ∙ ap (λ l. record rest.after { out = written steps ++ rest.after.out; lines = l }) (sym (append_assoc line (told steps) rest.after.lines));
+  is = is ∙ ap (stepping (Report line)) rest.is ∙ ap (λ l. record rest.after { out = written steps ++ rest.after.out; lines = l }) (sym (append_assoc line (reported steps) rest.after.lines));
 }
 
 -- an outcome of a step that failed ends with a fault of a step
 failed_step : (step : Step) (outcome : Outcome) → Fails step outcome → IsNoStepFault outcome.end → ⊥
-failed_step (Write bytes) outcome (front, left, whole, some, fails) none = subst (λ (o : Outcome). IsNoStepFault o.end) fails none
-failed_step (Tell line) outcome (front, left, whole, some, fails) none = subst (λ (o : Outcome). IsNoStepFault o.end) fails none
+failed_step (Write bytes) outcome (prefix, left, whole, some, fails) none = subst (λ (o : Outcome). IsNoStepFault o.end) fails none
+failed_step (Report line) outcome (prefix, left, whole, some, fails) none = subst (λ (o : Outcome). IsNoStepFault o.end) fails none
 
 -- a step that was taken leaves the end
 same_end : (step : Step) (after : Outcome) → (stepping step after).end ≡ after.end
 same_end (Write bytes) after = refl
-same_end (Tell line) after = refl
+same_end (Report line) after = refl
 
 -- where no step failed, all were taken
 pub all_done_but : (steps : List Step) (After : Outcome → Type 0) (outcome : Outcome) → Performs steps After outcome → IsNoStepFault outcome.end
@@ -70,9 +70,9 @@ pub all_done : (steps : List Step) (After : Outcome → Type 0) (outcome : Outco
 all_done steps After outcome does none = all_done_but steps After outcome does (no_step_fault outcome.end none)
 
 -- where there is no fault, there is none after the steps
-pub faultless_behind : (steps : List Step) (After : Outcome → Type 0) (outcome : Outcome) (done : AllDone steps After outcome)
+pub faultless_after : (steps : List Step) (After : Outcome → Type 0) (outcome : Outcome) (done : AllDone steps After outcome)
     → IsFaultless outcome.end → IsFaultless done.after.end
-faultless_behind steps After outcome done none = subst (λ (o : Outcome). IsFaultless o.end) done.is none
+faultless_after steps After outcome done none = subst (λ (o : Outcome). IsFaultless o.end) done.is none
 
 -- All bytes are a part of unit k, or those in front break a rule, and there the loop ends.
 abbrev pub IsShortOrBroken : Units → ℕ → List ℕ → Outcome → Type 0
@@ -89,11 +89,11 @@ short_or_broken units k bytes outcome w none =
       | Cut ↦ λ begins ends. elim ends [
         | inr fault ↦ absurd (subst IsFaultless fault none)
         | inl (short, all) ↦
-            let whole : w.own ≡ bytes = sym (w.front ∙ ap (λ l. w.own ++ l) all ∙ append-nil w.own) in
+            let whole : w.own ≡ bytes = sym (w.prefix ∙ ap (λ l. w.own ++ l) all ∙ append-nil w.own) in
             inl (subst (λ l. units.begins k l ≡ Cut) whole begins, w.takes ∙ ap (λ e. taking w.own (ended e)) short ∙ ap (λ l. taking l (ended (Short k (length l)))) whole)
       ]
       | Broken at ↦ λ begins ends. elim ends [
         | inr fault ↦ absurd (subst IsFaultless fault none)
-        | inl marks ↦ inr (at, w.own, w.left, w.front, begins, w.takes ∙ ap (λ e. taking w.own (ended e)) marks)
+        | inl marks ↦ inr (at, w.own, w.left, w.prefix, begins, w.takes ∙ ap (λ e. taking w.own (ended e)) marks)
       ]
     ] refl w.ends

@@ -1,10 +1,10 @@
 -- What a fault leaves: after a failed read, what the end of the input there would leave; after any fault, prefixes.
 use Rattle.std.proofs.Common.{◌≡◌, inl, inr, ℕ, zero, suc, ◌+◌, List, [], ◌∷◌, ◌++◌, length, refl, ap, sym, subst, ◌∙◌, append_assoc, append-nil, arith}
-use Rattle.dvd_loop.specs.Laws.{AreTotal, FaultsLeaveFronts, IsFaultless, IsPrefixOf, ReadFaultEndsInput}
+use Rattle.dvd_loop.specs.Laws.{AreTotal, FaultsLeavePrefixes, IsFaultless, IsPrefixOf, ReadFaultEndsInput}
 use Rattle.dvd_loop.specs.Machine.{Performs, EndsAfterLast, EndsWithin, Fails, Continues, ContinuesAfter, IsEndedWithin, Outcome, Prefix, Step, Units, bad_of, end_by, ended, stepping, taking}
 use Rattle.dvd_loop.specs.Machine.Prefix.{Whole, Cut, Broken}
-use Rattle.dvd_loop.specs.Machine.Step.{Write, Tell}
-use Rattle.dvd_loop.specs.UnitCommand.{told, written}
+use Rattle.dvd_loop.specs.Machine.Step.{Write, Report}
+use Rattle.dvd_loop.specs.UnitCommand.{reported, written}
 use Rattle.dvd_loop.specs.declared.ends.AfterLast.{AfterLast}
 use Rattle.dvd_loop.specs.declared.ends.AfterLast.TheVariants as after_last
 use Rattle.dvd_loop.specs.declared.ends.LoopEnd.{LoopEnd}
@@ -48,13 +48,13 @@ steps_there : (steps : List Step) (A : List ℕ → Outcome → Type 0) (bytes :
 steps_there steps A bytes leaves a does fault =
     let done = all_done_but steps (A bytes) a does (subst IsNoStepFault (sym fault) tt) in
     let there = leaves done.after done.holds (sym (ap (λ (o : Outcome). o.end) done.is) ∙ fault) in
-    there_as (λ l. Performs steps (A l)) a (onto [] (written steps) (told steps) done.after) done.is (record {
-      outcome = onto [] (written steps) (told steps) there.outcome;
+    there_as (λ l. Performs steps (A l)) a (onto [] (written steps) (reported steps) done.after) done.is (record {
+      outcome = onto [] (written steps) (reported steps) there.outcome;
       holds = does_all steps (A done.after.taken) there.outcome there.holds;
       faultless = there.faultless;
       taken = there.taken;
       out = ap (λ l. written steps ++ l) there.out;
-      lines = ap (λ l. told steps ++ l) there.lines;
+      lines = ap (λ l. reported steps ++ l) there.lines;
     })
 
 -- and with a unit before it, whether that was the last or not
@@ -80,7 +80,7 @@ end_by_not zero is = cc
 end_by_not (suc bad) is = cc
 
 -- so it is after the last unit
-behind_there : (stands : AfterLast) (bad : ℕ) (bytes : List ℕ) → LeaveThat (EndsAfterLast stands bad) bytes
+behind_there : (rule : AfterLast) (bad : ℕ) (bytes : List ℕ) → LeaveThat (EndsAfterLast rule bad) bytes
 behind_there after_last.Done bad bytes a is fault = absurd (let no : Done ≡ ReadFault = sym (ap (λ (o : Outcome). o.end) is) ∙ fault in cc)
 behind_there after_last.NoControl bad bytes a is fault = absurd (let no : NoControl ≡ ReadFault = sym (ap (λ (o : Outcome). o.end) is) ∙ fault in cc)
 behind_there after_last.EndOfInput bad [] a ends fault = elim ends [
@@ -100,7 +100,7 @@ module _ (units : Units) where
       let there : (end : LoopEnd) → EndsWithin (units.begins k w.own) k (length w.own) [] end → IsFaultless end → EndsAsTaken P a =
       λ end ends none. there_as P a (taking w.own (ended a.end)) w.takes (record {
         outcome = taking w.own (ended end);
-        holds = record { own = w.own; left = []; front = refl; ends = ends; takes = refl };
+        holds = record { own = w.own; left = []; prefix = refl; ends = ends; takes = refl };
         faultless = none;
         taken = refl;
         out = refl;
@@ -150,8 +150,8 @@ pub record Beyond (A : Outcome → Type 0) (a : Outcome) : Type 0 where
   pub lines : IsPrefixOf a.lines outcome.lines
 
 -- each outcome has its fronts of one without a fault
-abbrev LeaveFronts : (Outcome → Type 0) → Type 0
-LeaveFronts A = (a : Outcome) → A a → Beyond A a
+abbrev LeavePrefixes : (Outcome → Type 0) → Type 0
+LeavePrefixes A = (a : Outcome) → A a → Beyond A a
 
 -- what holds of an equal outcome holds of this one
 beyond_as : (A : Outcome → Type 0) (a x : Outcome) → a ≡ x → Beyond A x → Beyond A a
@@ -168,12 +168,12 @@ beyond_none A a (outcome, holds, none) out lines = record {
 }
 
 -- a front, with the same bytes before both, is a front still
-front_longer : (own front whole : List ℕ) → IsPrefixOf front whole → IsPrefixOf (own ++ front) (own ++ whole)
-front_longer own front whole (left, is) = (left, ap (λ l. own ++ l) is ∙ sym (append_assoc own front left))
+prefix_longer : (own prefix whole : List ℕ) → IsPrefixOf prefix whole → IsPrefixOf (own ++ prefix) (own ++ whole)
+prefix_longer own prefix whole (left, is) = (left, ap (λ l. own ++ l) is ∙ sym (append_assoc own prefix left))
 
 -- what was done of a step that failed, with nothing after it
-front_cut : (own front left more : List ℕ) → own ≡ front ++ left → IsPrefixOf (front ++ []) (own ++ more)
-front_cut own front left more is = (left ++ more, ap (λ l. l ++ more) is ∙ append_assoc front left more ∙ ap (λ l. l ++ (left ++ more)) (sym (append-nil front)))
+prefix_cut : (own prefix left more : List ℕ) → own ≡ prefix ++ left → IsPrefixOf (prefix ++ []) (own ++ more)
+prefix_cut own prefix left more is = (left ++ more, ap (λ l. l ++ more) is ∙ append_assoc prefix left more ∙ ap (λ l. l ++ (left ++ more)) (sym (append-nil prefix)))
 
 -- the step was taken, and then what came after
 abbrev Stepped : Step → (Outcome → Type 0) → Outcome → Type 0
@@ -181,21 +181,21 @@ Stepped step After outcome = (after : Outcome) × After after × (outcome ≡ st
 
 -- a step that failed has done a front of what it does when it is taken
 failed_beyond : (step : Step) (After : Outcome → Type 0) (a : Outcome) → Fails step a → Exists After → Beyond (Stepped step After) a
-failed_beyond (Write bytes) After a (front, left, whole, some, fails) (after, holds, none) =
-    beyond_as _ a (stepping (Write front) (ended WriteFault)) fails (record {
+failed_beyond (Write bytes) After a (prefix, left, whole, some, fails) (after, holds, none) =
+    beyond_as _ a (stepping (Write prefix) (ended WriteFault)) fails (record {
       outcome = stepping (Write bytes) after;
       holds = (after, holds, refl);
       faultless = none;
-      out = front_cut bytes front left after.out whole;
+      out = prefix_cut bytes prefix left after.out whole;
       lines = (after.lines, refl);
     })
-failed_beyond (Tell line) After a (front, left, whole, some, fails) (after, holds, none) =
-    beyond_as _ a (stepping (Tell front) (ended ReportFault)) fails (record {
-      outcome = stepping (Tell line) after;
+failed_beyond (Report line) After a (prefix, left, whole, some, fails) (after, holds, none) =
+    beyond_as _ a (stepping (Report prefix) (ended ReportFault)) fails (record {
+      outcome = stepping (Report line) after;
       holds = (after, holds, refl);
       faultless = none;
       out = (after.out, refl);
-      lines = front_cut line front left after.lines whole;
+      lines = prefix_cut line prefix left after.lines whole;
     })
 
 -- after a step that was taken there are fronts as before
@@ -204,15 +204,15 @@ stepped_beyond (Write bytes) After after beyond = record {
   outcome = stepping (Write bytes) beyond.outcome;
   holds = (beyond.outcome, beyond.holds, refl);
   faultless = beyond.faultless;
-  out = front_longer bytes after.out beyond.outcome.out beyond.out;
+  out = prefix_longer bytes after.out beyond.outcome.out beyond.out;
   lines = beyond.lines;
 }
-stepped_beyond (Tell line) After after beyond = record {
-  outcome = stepping (Tell line) beyond.outcome;
+stepped_beyond (Report line) After after beyond = record {
+  outcome = stepping (Report line) beyond.outcome;
   holds = (beyond.outcome, beyond.holds, refl);
   faultless = beyond.faultless;
   out = beyond.out;
-  lines = front_longer line after.lines beyond.outcome.lines beyond.lines;
+  lines = prefix_longer line after.lines beyond.outcome.lines beyond.lines;
 }
 
 -- an outcome beyond is one of a wider kind too
@@ -220,7 +220,7 @@ beyond_by : (A B : Outcome → Type 0) (a : Outcome) → ((o : Outcome) → A o 
 beyond_by A B a to beyond = record { outcome = beyond.outcome; holds = to beyond.outcome beyond.holds; faultless = beyond.faultless; out = beyond.out; lines = beyond.lines }
 
 -- steps leave fronts where what comes after them does
-steps_beyond : (steps : List Step) (A : Outcome → Type 0) → Exists A → LeaveFronts A → LeaveFronts (Performs steps A)
+steps_beyond : (steps : List Step) (A : Outcome → Type 0) → Exists A → LeavePrefixes A → LeavePrefixes (Performs steps A)
 steps_beyond [] A exists leaves a does = leaves a does
 steps_beyond (step ∷ steps) A exists leaves a does = elim does [
   | inl fails ↦ beyond_by _ (Performs (step ∷ steps) A) a (λ o is. inr is) (failed_beyond step (Performs steps A) a fails (steps_exist steps A exists))
@@ -230,20 +230,20 @@ steps_beyond (step ∷ steps) A exists leaves a does = elim does [
 ]
 
 -- whether the unit was the last or not, fronts are left where the units to come leave them
-kinds_beyond : (kind : UnitKind) (A : Outcome → Type 0) → LeaveFronts A → LeaveFronts (ContinuesAfter kind A)
+kinds_beyond : (kind : UnitKind) (A : Outcome → Type 0) → LeavePrefixes A → LeavePrefixes (ContinuesAfter kind A)
 kinds_beyond Good A leaves a goes = leaves a goes
 kinds_beyond Bad A leaves a goes = leaves a goes
 kinds_beyond Last A leaves a is = beyond_as (ContinuesAfter Last A) a (ended Done) is (record { outcome = ended Done; holds = refl; faultless = tt; out = ([], refl); lines = ([], refl) })
 
 -- after the last unit nothing is written or reported
-pub nothing_behind : (stands : AfterLast) (bad : ℕ) (left : List ℕ) (a : Outcome) → EndsAfterLast stands bad left a → (a.out ≡ []) × (a.lines ≡ [])
-nothing_behind after_last.Done bad left a is = (ap (λ (o : Outcome). o.out) is, ap (λ (o : Outcome). o.lines) is)
-nothing_behind after_last.NoControl bad left a is = (ap (λ (o : Outcome). o.out) is, ap (λ (o : Outcome). o.lines) is)
-nothing_behind after_last.EndOfInput bad [] a ends = elim ends [
+pub nothing_after : (rule : AfterLast) (bad : ℕ) (left : List ℕ) (a : Outcome) → EndsAfterLast rule bad left a → (a.out ≡ []) × (a.lines ≡ [])
+nothing_after after_last.Done bad left a is = (ap (λ (o : Outcome). o.out) is, ap (λ (o : Outcome). o.lines) is)
+nothing_after after_last.NoControl bad left a is = (ap (λ (o : Outcome). o.out) is, ap (λ (o : Outcome). o.lines) is)
+nothing_after after_last.EndOfInput bad [] a ends = elim ends [
   | inl is ↦ (ap (λ (o : Outcome). o.out) is, ap (λ (o : Outcome). o.lines) is)
   | inr is ↦ (ap (λ (o : Outcome). o.out) is, ap (λ (o : Outcome). o.lines) is)
 ]
-nothing_behind after_last.EndOfInput bad (byte ∷ left) a ends = elim ends [
+nothing_after after_last.EndOfInput bad (byte ∷ left) a ends = elim ends [
   | inl is ↦ (ap (λ (o : Outcome). o.out) is, ap (λ (o : Outcome). o.lines) is)
   | inr is ↦ (ap (λ (o : Outcome). o.out) is, ap (λ (o : Outcome). o.lines) is)
 ]
@@ -251,12 +251,12 @@ nothing_behind after_last.EndOfInput bad (byte ∷ left) a ends = elim ends [
 module _ (units : Units) (total : AreTotal units) where
   -- with n units to come, any outcome has fronts of one without a fault
   goes_beyond : (n : ℕ) (before : List (List ℕ)) (bad : ℕ) (bytes : List ℕ) → length before + n ≡ units.count
-      → LeaveFronts (Continues units n before bad bytes)
+      → LeavePrefixes (Continues units n before bad bytes)
   unfolding Continues
   goes_beyond zero before bad bytes all a (steps, closes, does) =
       beyond_by (Performs steps (EndsAfterLast units.after_last bad bytes)) (Continues units zero before bad bytes) a (λ o rest. (steps, closes, rest))
       (steps_beyond steps (EndsAfterLast units.after_last bad bytes) (behind_exists units.after_last bad bytes)
-      (λ o ends. let none = nothing_behind units.after_last bad bytes o ends in beyond_none (EndsAfterLast units.after_last bad bytes) o (behind_exists units.after_last bad bytes) none.0 none.1)
+      (λ o ends. let none = nothing_after units.after_last bad bytes o ends in beyond_none (EndsAfterLast units.after_last bad bytes) o (behind_exists units.after_last bad bytes) none.0 none.1)
       a does)
   goes_beyond (suc n) before bad bytes all a goes = elim goes [
     | inl w ↦
@@ -269,7 +269,7 @@ module _ (units : Units) (total : AreTotal units) where
         (kinds_beyond t.kind Next (goes_beyond n (before ++ t.own ∷ []) (bad + bad_of t.kind) t.left fewer)) t.after t.does in
         beyond_as (Continues units (suc n) before bad bytes) a (taking t.own t.after) t.takes (record {
           outcome = taking t.own beyond.outcome;
-          holds = inr (taken_then units before _ bytes t.own t.left t.steps t.kind _ beyond.outcome t.front t.unit beyond.holds refl);
+          holds = inr (taken_then units before _ bytes t.own t.left t.steps t.kind _ beyond.outcome t.prefix t.unit beyond.holds refl);
           faultless = beyond.faultless;
           out = beyond.out;
           lines = beyond.lines;
@@ -277,7 +277,7 @@ module _ (units : Units) (total : AreTotal units) where
   ]
 
 -- after any fault output and report have fronts of what they would have without one
-pub leave_fronts : (units : Units) → FaultsLeaveFronts units
-leave_fronts units total bytes a runs =
+pub leave_prefixes : (units : Units) → FaultsLeavePrefixes units
+leave_prefixes units total bytes a runs =
     let beyond = steps_beyond units.opens (Continues units units.count [] 0 bytes) (all_exist units total bytes) (goes_beyond units total units.count [] 0 bytes (omega arith)) a runs in
     (beyond.outcome, beyond.holds, beyond.faultless, beyond.out, beyond.lines)

@@ -6,7 +6,7 @@ pub mod EndLemmas
 pub mod EndsBySize
 pub mod Faultless
 pub mod Faults
-pub mod Fronts
+pub mod Prefixes
 pub mod LoopEnds
 pub mod Over
 pub mod PlainEnds

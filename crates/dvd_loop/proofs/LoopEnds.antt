@@ -13,7 +13,7 @@ use Rattle.dvd_loop.proofs.Sizes.{sized_never_broken}
 module _ (units : Units) (size : ℕ → ℕ) (begins : (k : ℕ) (own : List ℕ) → units.begins k own ≡ sized (size k) own) (asks : units.after_last ≡ EndOfInput) (bytes : List ℕ) (outcome : Outcome) (runs : IsOutcome units bytes outcome) where
   -- units after which one byte more is asked for don't end for want of control data
   no_control : outcome.end ≢ NoControl
-  no_control = never_no_control units bytes outcome runs (λ stands. let no : EndOfInput ≡ StopsNoControl = sym asks ∙ stands in cc)
+  no_control = never_no_control units bytes outcome runs (λ rule. let no : EndOfInput ≡ StopsNoControl = sym asks ∙ rule in cc)
 
   -- units of given sizes never end in bad marks, as no bytes of theirs break a rule
   no_marks : (k at : ℕ) → outcome.end ≢ BadMarks k at
@@ -21,17 +21,17 @@ module _ (units : Units) (size : ℕ → ℕ) (begins : (k : ℕ) (own : List �
 
   -- where no unit is bad and the report didn't fail
   pub plain_end : IsNever units Bad → (end : LoopEnd) → outcome.end ≡ end → end ≢ ReportFault → IsPlainEnd units.count end
-  plain_end never Done is told = tt
-  plain_end never ReadFault is told = tt
-  plain_end never WriteFault is told = tt
-  plain_end never ReportFault is told = absurd (told refl)
-  plain_end never (Short k held) is told = short_below units bytes outcome runs k held is
-  plain_end never Long is told = tt
-  plain_end never (Damaged bad) is told = absurd (never_damaged units bytes outcome runs never bad is)
-  plain_end never NoControl is told = absurd (no_control is)
-  plain_end never (BadMarks k at) is told = absurd (no_marks k at is)
-  plain_end never (ShortHeader held) is told = absurd (never_short_header units bytes outcome runs held is)
-  plain_end never (BadHeader at) is told = absurd (never_bad_header units bytes outcome runs at is)
+  plain_end never Done is known = tt
+  plain_end never ReadFault is known = tt
+  plain_end never WriteFault is known = tt
+  plain_end never ReportFault is known = absurd (known refl)
+  plain_end never (Short k held) is known = short_below units bytes outcome runs k held is
+  plain_end never Long is known = tt
+  plain_end never (Damaged bad) is known = absurd (never_damaged units bytes outcome runs never bad is)
+  plain_end never NoControl is known = absurd (no_control is)
+  plain_end never (BadMarks k at) is known = absurd (no_marks k at is)
+  plain_end never (ShortHeader held) is known = absurd (never_short_header units bytes outcome runs held is)
+  plain_end never (BadHeader at) is known = absurd (never_bad_header units bytes outcome runs at is)
 
   -- whatever the units are
   pub damage_end : (end : LoopEnd) → outcome.end ≡ end → IsDamageEnd units.count end
@@ -52,19 +52,19 @@ pub search_end : (units : Units) (size : ℕ → ℕ) → ((k : ℕ) (own : List
     → IsNever units Bad
     → (bytes : List ℕ) (outcome : Outcome) → IsOutcome units bytes outcome → (end : LoopEnd) → outcome.end ≡ end → end ≢ ReportFault
     → IsSearchEnd units.count end
-search_end units size begins stands never bytes outcome runs Done is told = tt
-search_end units size begins stands never bytes outcome runs ReadFault is told = tt
-search_end units size begins stands never bytes outcome runs WriteFault is told = tt
-search_end units size begins stands never bytes outcome runs ReportFault is told = absurd (told refl)
-search_end units size begins stands never bytes outcome runs (Short k held) is told = short_below units bytes outcome runs k held is
-search_end units size begins stands never bytes outcome runs Long is told =
-    absurd (never_long units bytes outcome runs (λ asks. let no : StopsNoControl ≡ EndOfInput = sym stands ∙ asks in cc) is)
-search_end units size begins stands never bytes outcome runs (Damaged bad) is told = absurd (never_damaged units bytes outcome runs never bad is)
-search_end units size begins stands never bytes outcome runs NoControl is told = tt
-search_end units size begins stands never bytes outcome runs (BadMarks k at) is told =
+search_end units size begins rule never bytes outcome runs Done is known = tt
+search_end units size begins rule never bytes outcome runs ReadFault is known = tt
+search_end units size begins rule never bytes outcome runs WriteFault is known = tt
+search_end units size begins rule never bytes outcome runs ReportFault is known = absurd (known refl)
+search_end units size begins rule never bytes outcome runs (Short k held) is known = short_below units bytes outcome runs k held is
+search_end units size begins rule never bytes outcome runs Long is known =
+    absurd (never_long units bytes outcome runs (λ asks. let no : StopsNoControl ≡ EndOfInput = sym rule ∙ asks in cc) is)
+search_end units size begins rule never bytes outcome runs (Damaged bad) is known = absurd (never_damaged units bytes outcome runs never bad is)
+search_end units size begins rule never bytes outcome runs NoControl is known = tt
+search_end units size begins rule never bytes outcome runs (BadMarks k at) is known =
     absurd (never_bad_marks units bytes outcome runs (λ j place own broken. sized_never_broken (size j) place own (sym (begins j own) ∙ broken)) k at is)
-search_end units size begins stands never bytes outcome runs (ShortHeader held) is told = absurd (never_short_header units bytes outcome runs held is)
-search_end units size begins stands never bytes outcome runs (BadHeader at) is told = absurd (never_bad_header units bytes outcome runs at is)
+search_end units size begins rule never bytes outcome runs (ShortHeader held) is known = absurd (never_short_header units bytes outcome runs held is)
+search_end units size begins rule never bytes outcome runs (BadHeader at) is known = absurd (never_bad_header units bytes outcome runs at is)
 
 -- the report of a stream that is not there can't fail
 pub never_told : (end : LoopEnd) → Counts (is_report_fault end) no_stream no_stream → end ≢ ReportFault

@@ -5,7 +5,7 @@ use Rattle.std.proofs.Math.Seq.{drop-append_seam, take-append_seam}
 use Rattle.std.proofs.lemmas.Bool.{cases_lt, eq-eqb, ne_eqb}
 use Rattle.dvd_loop.specs.Laws.{IsFaultless}
 use Rattle.dvd_loop.specs.Machine.{Performs, EndsAfterLast, Continues, IsOutcome, IsUnit, Outcome, Step, Units, bad_of, sized}
-use Rattle.dvd_loop.specs.UnitCommand.{told, written}
+use Rattle.dvd_loop.specs.UnitCommand.{reported, written}
 use Rattle.dvd_loop.specs.declared.ends.AfterLast.TheVariants.{EndOfInput}
 use Rattle.dvd_loop.specs.declared.ends.LoopEnd.TheVariants.{Done}
 use Rattle.dvd_loop.specs.declared.ends.UnitKind.{UnitKind}
@@ -70,7 +70,7 @@ pub record AreGood (units : Units) (size : ℕ → ℕ) (P : ℕ → List ℕ �
   pub opens : units.opens ≡ []
   pub does : (before : List (List ℕ)) (own : List ℕ) (steps : List Step) (kind : UnitKind) → length before < units.count
       → IsUnit units before own steps kind
-      → (kind ≡ Good) × P (length before) own (written steps) (told steps)
+      → (kind ≡ Good) × P (length before) own (written steps) (reported steps)
   pub closes : (before : List (List ℕ)) (steps : List Step) → units.closes before steps → steps ≡ []
   pub asks : units.after_last ≡ EndOfInput
 
@@ -106,11 +106,11 @@ module _ (units : Units) (size : ℕ → ℕ) (P : ℕ → List ℕ → List ℕ
   ]
 
   -- the bytes of unit k, after those of the units before it
-  own_bytes : (k : ℕ) (all front own left : List ℕ) → all ≡ front ++ (own ++ left) → length front ≡ start size k → length own ≡ size k
+  own_bytes : (k : ℕ) (all prefix own left : List ℕ) → all ≡ prefix ++ (own ++ left) → length prefix ≡ start size k → length own ≡ size k
       → own ≡ take (size k) (drop (start size k) all)
-  own_bytes k all front own left is at whole =
+  own_bytes k all prefix own left is at whole =
       sym (take-append_seam own left) ∙ ap (λ n. take n (own ++ left)) whole
-      ∙ ap (take (size k)) (sym (drop-append_seam front (own ++ left)) ∙ ap (λ n. drop n (front ++ (own ++ left))) at ∙ ap (drop (start size k)) (sym is))
+      ∙ ap (take (size k)) (sym (drop-append_seam prefix (own ++ left)) ∙ ap (λ n. drop n (prefix ++ (own ++ left))) at ∙ ap (drop (start size k)) (sym is))
 
   -- one unit before those to come adds its piece to theirs
   one_more : (k n : ℕ) (all own left w t : List ℕ) (after : Outcome) → P k (take (size k) (drop (start size k) all)) w t
@@ -137,34 +137,34 @@ module _ (units : Units) (size : ℕ → ℕ) (P : ℕ → List ℕ → List ℕ
   }
 
   -- with n units to come and their bytes left, each writes and reports its piece, and the run is done
-  goes_over : (n : ℕ) (before : List (List ℕ)) (all front left : List ℕ) (a : Outcome) → all ≡ front ++ left
-      → length front ≡ start size (length before) → length before + n ≡ units.count
+  goes_over : (n : ℕ) (before : List (List ℕ)) (all prefix left : List ℕ) (a : Outcome) → all ≡ prefix ++ left
+      → length prefix ≡ start size (length before) → length before + n ≡ units.count
       → length all ≡ start size units.count → Continues units n before 0 left a → IsFaultless a.end → InPieces size P (length before) n all left a
   unfolding Continues
-  goes_over zero before all front left a is at count whole (steps, closes, does) none =
+  goes_over zero before all prefix left a is at count whole (steps, closes, does) none =
       let here : length before ≡ units.count = omega arith in
-      let nothing : left ≡ [] = empty left (omega (arith, ap length is, length-append front left, ap (start size) here)) in
+      let nothing : left ≡ [] = empty left (omega (arith, ap length is, length-append prefix left, ap (start size) here)) in
       let ends = subst (λ b. EndsAfterLast b 0 left a) are.asks (subst (λ l. Performs l (EndsAfterLast units.after_last 0 left) a) (are.closes before steps closes) does) in
       subst (λ l. InPieces size P (length before) 0 all l a) (sym nothing) (no_more (length before) all a (subst (λ l. EndsAfterLast EndOfInput 0 l a) nothing ends) none)
-  goes_over (suc n) before all front left a is at count whole goes none =
+  goes_over (suc n) before all prefix left a is at count whole goes none =
       let lt : length before < units.count = omega arith in
       let next : suc (length before) + n ≡ units.count = omega arith in
       let enough : start size (length before) + size (length before) ≤ start size units.count =
       subst (λ m. start size (length before) + size (length before) ≤ start size m) next (omega (arith, start-le size (suc (length before)) n, start-suc size (length before))) in
       elim (goes_one units size are.begins n before (λ own steps unit. let no : Last ≡ Good = (are.does before own steps Last lt unit).0 in cc) 0 left a goes none) [
-        | inl short ↦ absurd (omega (arith, short.fewer, ap length is, length-append front left))
+        | inl short ↦ absurd (omega (arith, short.fewer, ap length is, length-append prefix left))
         | inr t ↦
             let does = are.does before t.own t.steps t.kind lt t.unit in
             let good : 0 + bad_of t.kind ≡ 0 = ap (λ u. 0 + bad_of u) does.0 in
             let one : length (before ++ t.own ∷ []) ≡ length before + 1 = length-append before (t.own ∷ []) in
-            let parts : all ≡ front ++ (t.own ++ t.left) = is ∙ ap (λ l. front ++ l) t.front in
-            let further : length (front ++ t.own) ≡ start size (length (before ++ t.own ∷ [])) =
-            length-append front t.own ∙ omega (arith, at, t.size_is, start-suc size (length before)) ∙ ap (start size) (sym (one ∙ add-one (length before))) in
-            let r = goes_over n (before ++ t.own ∷ []) all (front ++ t.own) t.left t.after (parts ∙ sym (append_assoc front t.own t.left)) further (omega arith) whole
+            let parts : all ≡ prefix ++ (t.own ++ t.left) = is ∙ ap (λ l. prefix ++ l) t.prefix in
+            let further : length (prefix ++ t.own) ≡ start size (length (before ++ t.own ∷ [])) =
+            length-append prefix t.own ∙ omega (arith, at, t.size_is, start-suc size (length before)) ∙ ap (start size) (sym (one ∙ add-one (length before))) in
+            let r = goes_over n (before ++ t.own ∷ []) all (prefix ++ t.own) t.left t.after (parts ∙ sym (append_assoc prefix t.own t.left)) further (omega arith) whole
             (subst (λ b. Continues units n (before ++ t.own ∷ []) b t.left t.after) good t.goes) t.faultless in
-            let mine = own_bytes (length before) all front t.own t.left parts at t.size_is in
-            pieces_as (length before) (suc n) all left a _ t.is (subst (λ l. InPieces size P (length before) (suc n) all l (onto t.own (written t.steps) (told t.steps) t.after)) (sym t.front)
-            (one_more (length before) n all t.own t.left (written t.steps) (told t.steps) t.after (subst (λ l. P (length before) l (written t.steps) (told t.steps)) mine does.1)
+            let mine = own_bytes (length before) all prefix t.own t.left parts at t.size_is in
+            pieces_as (length before) (suc n) all left a _ t.is (subst (λ l. InPieces size P (length before) (suc n) all l (onto t.own (written t.steps) (reported t.steps) t.after)) (sym t.prefix)
+            (one_more (length before) n all t.own t.left (written t.steps) (reported t.steps) t.after (subst (λ l. P (length before) l (written t.steps) (reported t.steps)) mine does.1)
             (subst (λ k. InPieces size P k n all t.left t.after) one r)))
       ]
 

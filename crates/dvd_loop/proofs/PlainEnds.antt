@@ -3,7 +3,7 @@ use Rattle.std.proofs.Common.{◌≡◌, ◌≢◌, inl, inr, ◌⊎◌, ℕ, ze
 use Rattle.dvd_loop.specs.Laws.{IsNever}
 use Rattle.dvd_loop.specs.Machine.{Performs, EndsAfterLast, EndsWithin, Continues, ContinuesAfter, IsOutcome, IsEndedWithin, Outcome, Step, Units, bad_of, end_by}
 use Rattle.dvd_loop.specs.Machine.Prefix.{Whole, Cut, Broken}
-use Rattle.dvd_loop.specs.Machine.Step.{Write, Tell}
+use Rattle.dvd_loop.specs.Machine.Step.{Write, Report}
 use Rattle.dvd_loop.specs.declared.ends.AfterLast.TheVariants as after_last
 use Rattle.dvd_loop.specs.declared.ends.LoopEnd.{LoopEnd}
 use Rattle.dvd_loop.specs.declared.ends.LoopEnd.TheVariants.{BadHeader, BadMarks, Damaged, Done, Long, NoControl, ReadFault, ReportFault, Short, ShortHeader, WriteFault}
@@ -48,11 +48,11 @@ steps_end : (May : LoopEnd → Type 0) → May WriteFault → May ReportFault �
     → AllEndSo May (Performs steps A)
 steps_end May write report [] A so a does = so a does
 steps_end May write report (Write bytes ∷ steps) A so a does = elim does [
-  | inl (front, left, whole, some, fails) ↦ end_as May a _ fails write
+  | inl (prefix, left, whole, some, fails) ↦ end_as May a _ fails write
   | inr (after, does, is) ↦ end_as May a _ is (steps_end May write report steps A so after does)
 ]
-steps_end May write report (Tell line ∷ steps) A so a does = elim does [
-  | inl (front, left, whole, some, fails) ↦ end_as May a _ fails report
+steps_end May write report (Report line ∷ steps) A so a does = elim does [
+  | inl (prefix, left, whole, some, fails) ↦ end_as May a _ fails report
   | inr (after, does, is) ↦ end_as May a _ is (steps_end May write report steps A so after does)
 ]
 
@@ -77,7 +77,7 @@ module _ (units : Units) (Many : ℕ → ℕ → Type 0) (are : IsCount units Ma
   -- after the last unit
   behind_end : (bad : ℕ) → Many units.count bad → (left : List ℕ) → AllEndSo (HasReason units Many) (EndsAfterLast units.after_last bad left)
   behind_end bad many left a ends =
-      elim units.after_last as (λ stands. units.after_last ≡ stands → EndsAfterLast stands bad left a → HasReason units Many a.end) [
+      elim units.after_last as (λ rule. units.after_last ≡ rule → EndsAfterLast rule bad left a → HasReason units Many a.end) [
         | after_last.Done ↦ λ is ends. end_as (HasReason units Many) a _ ends (inr (inl is))
         | after_last.NoControl ↦ λ is ends. end_as (HasReason units Many) a _ ends is
         | after_last.EndOfInput ↦ λ is ends. asked_end is bad many left a ends

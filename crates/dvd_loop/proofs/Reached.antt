@@ -2,7 +2,7 @@
 use Rattle.std.proofs.Common.{◌≡◌, ◌≢◌, inl, inr, ℕ, zero, suc, ◌+◌, ◌<◌, List, [], ◌∷◌, ◌++◌, length, refl, ap, sym, subst, append_assoc, append-nil, length-append, arith}
 use Rattle.dvd_loop.specs.Machine.{Performs, EndsAfterLast, Continues, ContinuesAfter, IsOutcome, IsUnit, Outcome, Step, Units, bad_of, ended, taking}
 use Rattle.dvd_loop.specs.Streams.{HaveReached, HaveMoved, Streams}
-use Rattle.dvd_loop.specs.UnitCommand.{EndsAt, IsUnitDone, Nothing, told, written}
+use Rattle.dvd_loop.specs.UnitCommand.{EndsAt, IsUnitDone, Nothing, reported, written}
 use Rattle.dvd_loop.specs.declared.ends.LoopEnd.{LoopEnd}
 use Rattle.dvd_loop.specs.declared.ends.LoopEnd.TheVariants.{Done}
 use Rattle.dvd_loop.specs.declared.ends.UnitKind.{UnitKind}
@@ -41,14 +41,14 @@ goes_further Last Continues outcome not goes = absurd (not refl)
 
 module _ (units : Units) where
   -- the opening was done
-  pub reached_first : (old now : Streams) → HaveMoved old now [] (written units.opens) (told units.opens) → Reached units 0 [] old now 0
+  pub reached_first : (old now : Streams) → HaveMoved old now [] (written units.opens) (reported units.opens) → Reached units 0 [] old now 0
   reached_first old now moved = record {
     to_come = units.count;
     all = omega arith;
     number = refl;
     taken = [];
     out = written units.opens;
-    lines = told units.opens;
+    lines = reported units.opens;
     moved = moved;
     reaches = λ left after goes. does_all units.opens (Continues units units.count [] 0 left) after goes;
   }
@@ -57,7 +57,7 @@ module _ (units : Units) where
   pub opening_ends : (old new : Streams) (end : LoopEnd) → HaveReached (λ bytes. Performs units.opens Nothing) old new end → HaveReached (IsOutcome units) old new end
   opening_ends old new end comes = record {
     bytes = comes.bytes;
-    told = comes.told;
+    known = comes.known;
     outcome = comes.outcome;
     holds = does_as units.opens Nothing (Continues units units.count [] 0 comes.bytes) (λ after none. absurd none) comes.outcome comes.holds;
     ends = comes.ends;
@@ -68,10 +68,10 @@ module _ (units : Units) where
   pub taken_unit : (n : ℕ) (before : List (List ℕ)) (own left : List ℕ) (steps : List Step) (kind : UnitKind) (bad : ℕ) (after : Outcome)
       → IsUnit units before own steps kind
       → ContinuesAfter kind (Continues units n (before ++ own ∷ []) (bad + bad_of kind) left) after
-      → Continues units (suc n) before bad (own ++ left) (taking own (onto [] (written steps) (told steps) after))
+      → Continues units (suc n) before bad (own ++ left) (taking own (onto [] (written steps) (reported steps) after))
   unfolding Continues
   taken_unit n before own left steps kind bad after unit goes =
-      inr (taken_then units before _ (own ++ left) own left steps kind _ (onto [] (written steps) (told steps) after) refl unit
+      inr (taken_then units before _ (own ++ left) own left steps kind _ (onto [] (written steps) (reported steps) after) refl unit
       (does_all steps (ContinuesAfter kind (Continues units n (before ++ own ∷ []) (bad + bad_of kind) left)) after goes) refl)
 
   -- a loop that ends within a unit or its steps
@@ -81,7 +81,7 @@ module _ (units : Units) where
   ends_at n before bad bytes outcome at = elim at [
     | inl within ↦ inl within
     | inr t ↦
-        inr (taken_then units before _ bytes t.own t.left t.steps t.kind outcome t.after t.front t.unit
+        inr (taken_then units before _ bytes t.own t.left t.steps t.kind outcome t.after t.prefix t.unit
         (does_as t.steps Nothing (ContinuesAfter t.kind (Continues units n (before ++ t.own ∷ []) (bad + bad_of t.kind) t.left)) (λ after none. absurd none) t.after t.does) t.takes)
   ]
 
@@ -102,16 +102,16 @@ module _ (units : Units) where
     reaches_taken : (n : ℕ) → r.to_come ≡ suc n → (own left : List ℕ) (steps : List Step) (kind : UnitKind) (after : Outcome)
         → IsUnit units before own steps kind
         → ContinuesAfter kind (Continues units n (before ++ own ∷ []) (bad + bad_of kind) left) after
-        → IsOutcome units ((r.taken ++ own) ++ left) (onto (r.taken ++ own) (r.out ++ written steps) (r.lines ++ told steps) after)
+        → IsOutcome units ((r.taken ++ own) ++ left) (onto (r.taken ++ own) (r.out ++ written steps) (r.lines ++ reported steps) after)
     reaches_taken n is own left steps kind after unit goes =
-        subst (λ l. IsOutcome units l (onto (r.taken ++ own) (r.out ++ written steps) (r.lines ++ told steps) after)) (sym (append_assoc r.taken own left))
-        (subst (IsOutcome units (r.taken ++ (own ++ left))) (onto_unit r.taken r.out r.lines own (written steps) (told steps) after)
-        (reaches_next n is (own ++ left) (taking own (onto [] (written steps) (told steps) after)) (taken_unit n before own left steps kind bad after unit goes)))
+        subst (λ l. IsOutcome units l (onto (r.taken ++ own) (r.out ++ written steps) (r.lines ++ reported steps) after)) (sym (append_assoc r.taken own left))
+        (subst (IsOutcome units (r.taken ++ (own ++ left))) (onto_unit r.taken r.out r.lines own (written steps) (reported steps) after)
+        (reaches_next n is (own ++ left) (taking own (onto [] (written steps) (reported steps) after)) (taken_unit n before own left steps kind bad after unit goes)))
 
     module _ (ready : List (List ℕ) → Type 0) (new : Streams) (kind : UnitKind) (t : IsUnitDone units before ready now new kind) (lt : k < units.count) where
       -- what was taken, written and reported up to the end of this unit: that before it, and then its own
-      moved_next : HaveMoved old new (r.taken ++ t.own) (r.out ++ written t.steps) (r.lines ++ told t.steps)
-      moved_next = moves_on old now new r.taken r.out r.lines t.own (written t.steps) (told t.steps) r.moved t.moved
+      moved_next : HaveMoved old new (r.taken ++ t.own) (r.out ++ written t.steps) (r.lines ++ reported t.steps)
+      moved_next = moves_on old now new r.taken r.out r.lines t.own (written t.steps) (reported t.steps) r.moved t.moved
 
       -- the unit was taken and done, and more may come
       pub reached_next : kind ≢ Last → (more_bad : ℕ) → more_bad ≡ bad + bad_of kind → Reached units (k + 1) (before ++ t.own ∷ []) old new more_bad
@@ -122,7 +122,7 @@ module _ (units : Units) where
             number = omega (arith, length-append before (t.own ∷ []), r.number);
             taken = r.taken ++ t.own;
             out = r.out ++ written t.steps;
-            lines = r.lines ++ told t.steps;
+            lines = r.lines ++ reported t.steps;
             moved = moved_next;
             reaches = λ left after goes.
                 reaches_taken n.0 n.1 t.own left t.steps kind after t.unit
@@ -137,14 +137,14 @@ module _ (units : Units) where
           let goes : ContinuesAfter kind (Continues units n.0 (before ++ t.own ∷ []) (bad + bad_of kind) left.0) (ended Done) =
           subst (λ u. ContinuesAfter u (Continues units n.0 (before ++ t.own ∷ []) (bad + bad_of kind) left.0) (ended Done)) (sym is_last) refl in
           comes_after (λ bytes outcome. (bytes ≡ left.0) × (outcome ≡ ended Done)) (IsOutcome units) old new new Done
-          (r.taken ++ t.own) (r.out ++ written t.steps) (r.lines ++ told t.steps) moved_next
+          (r.taken ++ t.own) (r.out ++ written t.steps) (r.lines ++ reported t.steps) moved_next
           (λ bytes after is.
-          subst (λ l. IsOutcome units ((r.taken ++ t.own) ++ l) (onto (r.taken ++ t.own) (r.out ++ written t.steps) (r.lines ++ told t.steps) after)) (sym is.0)
-          (subst (λ o. IsOutcome units ((r.taken ++ t.own) ++ left.0) (onto (r.taken ++ t.own) (r.out ++ written t.steps) (r.lines ++ told t.steps) o)) (sym is.1)
+          subst (λ l. IsOutcome units ((r.taken ++ t.own) ++ l) (onto (r.taken ++ t.own) (r.out ++ written t.steps) (r.lines ++ reported t.steps) after)) (sym is.0)
+          (subst (λ o. IsOutcome units ((r.taken ++ t.own) ++ left.0) (onto (r.taken ++ t.own) (r.out ++ written t.steps) (r.lines ++ reported t.steps) o)) (sym is.1)
           (reaches_taken n.0 n.1 t.own left.0 t.steps kind (ended Done) t.unit goes)))
           (record {
             bytes = left.0;
-            told = left.1;
+            known = left.1;
             outcome = ended Done;
             holds = (refl, refl);
             ends = refl;
@@ -174,13 +174,13 @@ module _ (units : Units) where
           (λ left after does. reaches_closed left after (does_as steps Nothing (EndsAfterLast units.after_last bad left) (λ o none. absurd none) after does)) comes
 
       -- what comes after the closing ended it
-      pub behind_ends : (mid new : Streams) (end : LoopEnd) → HaveMoved now mid [] (written steps) (told steps)
+      pub behind_ends : (mid new : Streams) (end : LoopEnd) → HaveMoved now mid [] (written steps) (reported steps)
           → HaveReached (EndsAfterLast units.after_last bad) mid new end → HaveReached (IsOutcome units) old new end
       behind_ends mid new end moved comes =
-          comes_after (EndsAfterLast units.after_last bad) (IsOutcome units) old mid new end (r.taken ++ []) (r.out ++ written steps) (r.lines ++ told steps)
-          (moves_on old now mid r.taken r.out r.lines [] (written steps) (told steps) r.moved moved)
+          comes_after (EndsAfterLast units.after_last bad) (IsOutcome units) old mid new end (r.taken ++ []) (r.out ++ written steps) (r.lines ++ reported steps)
+          (moves_on old now mid r.taken r.out r.lines [] (written steps) (reported steps) r.moved moved)
           (λ left after holds.
-          subst (λ l. IsOutcome units l (onto (r.taken ++ []) (r.out ++ written steps) (r.lines ++ told steps) after)) (ap (λ l. l ++ left) (sym (append-nil r.taken)))
-          (subst (IsOutcome units (r.taken ++ left)) (onto_unit r.taken r.out r.lines [] (written steps) (told steps) after)
-          (reaches_closed left (onto [] (written steps) (told steps) after) (does_all steps (EndsAfterLast units.after_last bad left) after holds))))
+          subst (λ l. IsOutcome units l (onto (r.taken ++ []) (r.out ++ written steps) (r.lines ++ reported steps) after)) (ap (λ l. l ++ left) (sym (append-nil r.taken)))
+          (subst (IsOutcome units (r.taken ++ left)) (onto_unit r.taken r.out r.lines [] (written steps) (reported steps) after)
+          (reaches_closed left (onto [] (written steps) (reported steps) after) (does_all steps (EndsAfterLast units.after_last bad left) after holds))))
           comes

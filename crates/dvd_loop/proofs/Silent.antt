@@ -5,7 +5,7 @@ use Rattle.dvd_ports.proofs.StopLemmas.{unmoved}
 use Rattle.dvd_ports.specs.Seen.{Seen}
 use Rattle.dvd_ports.proofs.KnownLemmas.{Appends-none}
 use Rattle.dvd_loop.specs.Machine.{Performs, EndsAfterLast, Continues, ContinuesAfter, IsOutcome, Outcome, Step, Units, bad_of, plain_units}
-use Rattle.dvd_loop.specs.Machine.Step.{Write, Tell}
+use Rattle.dvd_loop.specs.Machine.Step.{Write, Report}
 use Rattle.dvd_loop.specs.Streams.{Counts, HasEnded, is_report_fault, no_stream, streams}
 use Rattle.dvd_loop.specs.declared.ends.AfterLast.{AfterLast}
 use Rattle.dvd_loop.specs.declared.ends.AfterLast.TheVariants as after_last
@@ -17,7 +17,7 @@ use Rattle.dvd_loop.specs.declared.ends.UnitKind.TheVariants.{Good, Bad, Last}
 abbrev pub AreWrites : List Step → Type 0
 AreWrites [] = Unit {0}
 AreWrites (Write bytes ∷ steps) = AreWrites steps
-AreWrites (Tell line ∷ steps) = ⊥
+AreWrites (Report line ∷ steps) = ⊥
 
 -- no step of these units reports a line
 pub record AreSilent (units : Units) : Type 0 where
@@ -50,13 +50,13 @@ no_lines a b is none = ap (λ (o : Outcome). o.lines) is ∙ none
 steps_silent : (steps : List Step) → AreWrites steps → (A : Outcome → Type 0) → HaveNoLines A → HaveNoLines (Performs steps A)
 steps_silent [] are A none a does = none a does
 steps_silent (Write bytes ∷ steps) are A none a does = elim does [
-  | inl (front, left, whole, some, fails) ↦ no_lines a _ fails refl
+  | inl (prefix, left, whole, some, fails) ↦ no_lines a _ fails refl
   | inr (after, goes, is) ↦ no_lines a _ is (steps_silent steps are A none after goes)
 ]
-steps_silent (Tell line ∷ steps) are A none a does = absurd are
+steps_silent (Report line ∷ steps) are A none a does = absurd are
 
 -- after the last unit
-behind_silent : (stands : AfterLast) (bad : ℕ) (left : List ℕ) → HaveNoLines (EndsAfterLast stands bad left)
+behind_silent : (rule : AfterLast) (bad : ℕ) (left : List ℕ) → HaveNoLines (EndsAfterLast rule bad left)
 behind_silent after_last.Done bad left a is = no_lines a _ is refl
 behind_silent after_last.NoControl bad left a is = no_lines a _ is refl
 behind_silent after_last.EndOfInput bad [] a ends = elim ends [
@@ -103,14 +103,14 @@ module _ (units : Units) (are : AreSilent units) where
       record {
         comes = record {
           bytes = comes.bytes;
-          told = comes.told;
+          known = comes.known;
           outcome = comes.outcome;
           holds = comes.holds;
           ends = comes.ends;
           moved = record {
             reads = comes.moved.reads;
             writes = comes.moved.writes;
-            tells = subst (Appends report.bytes report.bytes) (sym none) (Appends-none report.bytes);
+            reports = subst (Appends report.bytes report.bytes) (sym none) (Appends-none report.bytes);
           };
         };
         causes = record {

@@ -6,11 +6,11 @@ use Rattle.std.proofs.lemmas.List.{length-take-le, take-append-drop}
 use Rattle.dvd_loop.specs.Laws.{IsFaultless}
 use Rattle.dvd_loop.specs.Machine.{Continues, ContinuesAfter, IsUnit, IsEndedWithin, Outcome, Step, Units, bad_of, ended, taking, sized}
 use Rattle.dvd_loop.specs.Machine.Prefix.{Whole, Cut, Broken}
-use Rattle.dvd_loop.specs.UnitCommand.{told, written}
+use Rattle.dvd_loop.specs.UnitCommand.{reported, written}
 use Rattle.dvd_loop.specs.declared.ends.LoopEnd.TheVariants.{Short}
 use Rattle.dvd_loop.specs.declared.ends.UnitKind.{UnitKind}
 use Rattle.dvd_loop.specs.declared.ends.UnitKind.TheVariants.{Last}
-use Rattle.dvd_loop.proofs.Faultless.{all_done, faultless_behind, short_or_broken}
+use Rattle.dvd_loop.proofs.Faultless.{all_done, faultless_after, short_or_broken}
 use Rattle.dvd_loop.proofs.Reached.{goes_further}
 use Rattle.dvd_loop.proofs.StepLemmas.{onto}
 
@@ -84,7 +84,7 @@ module _ (units : Units) (size : ℕ → ℕ) (begins : (k : ℕ) (bytes : List 
   pub within_short : (k : ℕ) (bytes : List ℕ) (outcome : Outcome) → IsEndedWithin units k bytes outcome → IsFaultless outcome.end → IsShort k bytes outcome
   within_short k bytes outcome w none = elim (short_or_broken units k bytes outcome w none) [
     | inl (cut, is) ↦ record { fewer = (sized_cut (size k) bytes).0 (sym (begins k bytes) ∙ cut); is = is }
-    | inr (at, own, left, front, broken, is) ↦ absurd (sized_never_broken (size k) at own (sym (begins k own) ∙ broken))
+    | inr (at, own, left, prefix, broken, is) ↦ absurd (sized_never_broken (size k) at own (sym (begins k own) ∙ broken))
   ]
 
   -- The unit after those is taken and done without a fault, and then the units to come.
@@ -93,12 +93,12 @@ module _ (units : Units) (size : ℕ → ℕ) (begins : (k : ℕ) (bytes : List 
     pub left : List ℕ
     pub steps : List Step
     pub kind : UnitKind
-    pub front : bytes ≡ own ++ left
+    pub prefix : bytes ≡ own ++ left
     pub size_is : length own ≡ size (length before)
     pub unit : IsUnit units before own steps kind
     pub after : Outcome
     pub goes : Continues units n (before ++ own ∷ []) (bad + bad_of kind) left after
-    pub is : outcome ≡ onto own (written steps) (told steps) after
+    pub is : outcome ≡ onto own (written steps) (reported steps) after
     pub faultless : IsFaultless after.end
 
   -- one unit of a run without a fault: too few bytes are left for it, or it is taken and done
@@ -117,12 +117,12 @@ module _ (units : Units) (size : ℕ → ℕ) (begins : (k : ℕ) (bytes : List 
           left = t.left;
           steps = t.steps;
           kind = t.kind;
-          front = t.front;
+          prefix = t.prefix;
           size_is = unit_size (length before) t.own t.unit.whole;
           unit = t.unit;
           after = done.after;
           goes = goes_further t.kind Next done.after (λ is. never t.own t.steps (subst (IsUnit units before t.own t.steps) is t.unit)) done.holds;
           is = t.takes ∙ ap (taking t.own) done.is;
-          faultless = faultless_behind t.steps (ContinuesAfter t.kind Next) t.after done faultless;
+          faultless = faultless_after t.steps (ContinuesAfter t.kind Next) t.after done faultless;
         })
   ]

@@ -1,8 +1,8 @@
 -- Steps that are done: all of them, some of them, and with other things after them.
 use Rattle.std.proofs.Common.{◌≡◌, inl, inr, List, [], ◌∷◌, ◌++◌, ℕ, ap, append_assoc}
 use Rattle.dvd_loop.specs.Machine.{Performs, IsTaken, IsUnit, Outcome, Step, Units, taking}
-use Rattle.dvd_loop.specs.Machine.Step.{Write, Tell}
-use Rattle.dvd_loop.specs.UnitCommand.{told, written}
+use Rattle.dvd_loop.specs.Machine.Step.{Write, Report}
+use Rattle.dvd_loop.specs.UnitCommand.{reported, written}
 use Rattle.dvd_loop.specs.declared.ends.UnitKind.{UnitKind}
 
 -- so much was taken, written and reported, and then what came after
@@ -15,17 +15,17 @@ and_then loop line = record { taken = loop.taken ++ line.taken; out = loop.out +
 
 -- all steps were taken, and then came what After says
 pub does_all : (steps : List Step) (After : Outcome → Type 0) (after : Outcome) → After after
-    → Performs steps After (onto [] (written steps) (told steps) after)
+    → Performs steps After (onto [] (written steps) (reported steps) after)
 does_all [] After after holds = holds
 does_all (Write bytes ∷ steps) After after holds = inr (
-  onto [] (written steps) (told steps) after,
+  onto [] (written steps) (reported steps) after,
   does_all steps After after holds,
-  ap (λ l. record after { out = l; lines = told steps ++ after.lines }) (append_assoc bytes (written steps) after.out),
+  ap (λ l. record after { out = l; lines = reported steps ++ after.lines }) (append_assoc bytes (written steps) after.out),
 )
-does_all (Tell line ∷ steps) After after holds = inr (
-  onto [] (written steps) (told steps) after,
+does_all (Report line ∷ steps) After after holds = inr (
+  onto [] (written steps) (reported steps) after,
   does_all steps After after holds,
-  ap (λ l. record after { out = written steps ++ after.out; lines = l }) (append_assoc line (told steps) after.lines),
+  ap (λ l. record after { out = written steps ++ after.out; lines = l }) (append_assoc line (reported steps) after.lines),
 )
 
 -- what holds of what comes after steps may be said otherwise
@@ -50,5 +50,5 @@ does_then (step ∷ steps) more After outcome does = elim does [
 pub taken_then : (units : Units) (before : List (List ℕ)) (After : List ℕ → List ℕ → UnitKind → Outcome → Type 0) (bytes own left : List ℕ) (steps : List Step) (kind : UnitKind) (outcome after : Outcome)
     → bytes ≡ own ++ left → IsUnit units before own steps kind → Performs steps (After own left kind) after → outcome ≡ taking own after
     → IsTaken units before After bytes outcome
-taken_then units before After bytes own left steps kind outcome after front unit does takes =
-    record { own = own; left = left; steps = steps; kind = kind; front = front; unit = unit; after = after; does = does; takes = takes }
+taken_then units before After bytes own left steps kind outcome after prefix unit does takes =
+    record { own = own; left = left; steps = steps; kind = kind; prefix = prefix; unit = unit; after = after; does = does; takes = takes }

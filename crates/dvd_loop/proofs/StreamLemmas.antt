@@ -6,7 +6,7 @@ use Rattle.dvd_ports.proofs.StopLemmas.{ends_after, fails_after, goes_on, unmove
 use Rattle.dvd_ports.specs.Causes.{HasGoneOn}
 use Rattle.dvd_ports.specs.Seen.{Seen}
 use Rattle.dvd_loop.specs.Machine.{Outcome}
-use Rattle.dvd_loop.specs.Streams.{HaveReached, Counts, HasEnded, HaveCauses, HaveGoneOn, HaveMoved, IsTold, SourceCounts, Streams, is_report_fault, is_write_fault, streams}
+use Rattle.dvd_loop.specs.Streams.{HaveReached, Counts, HasEnded, HaveCauses, HaveGoneOn, HaveMoved, AreKnown, SourceCounts, Streams, is_report_fault, is_write_fault, streams}
 use Rattle.dvd_loop.specs.declared.ends.LoopEnd.{LoopEnd}
 use Rattle.dvd_loop.specs.declared.ends.LoopEnd.TheVariants.{Damaged, Done, ReadFault, Short, ShortHeader}
 use Rattle.dvd_loop.proofs.StepLemmas.{and_then, onto}
@@ -18,7 +18,7 @@ Consumes-none (Some bytes) = refl
 
 -- streams that nobody touched
 pub stays : (old : Streams) → HaveMoved old old [] [] []
-stays old = record { reads = Consumes-none old.source.bytes; writes = Appends-none old.output.bytes; tells = Appends-none old.report.bytes }
+stays old = record { reads = Consumes-none old.source.bytes; writes = Appends-none old.output.bytes; reports = Appends-none old.report.bytes }
 
 -- what the streams moved by first, and then again, they moved by together
 pub moves_on : (a b c : Streams) (taken out lines taken2 out2 lines2 : List ℕ) → HaveMoved a b taken out lines → HaveMoved b c taken2 out2 lines2
@@ -26,22 +26,22 @@ pub moves_on : (a b c : Streams) (taken out lines taken2 out2 lines2 : List ℕ)
 moves_on a b c taken out lines taken2 out2 lines2 p q = record {
   reads = Consumes-then _ _ _ _ _ p.reads q.reads;
   writes = Appends-then _ _ _ _ _ p.writes q.writes;
-  tells = Appends-then _ _ _ _ _ p.tells q.tells;
+  reports = Appends-then _ _ _ _ _ p.reports q.reports;
 }
 
 -- what a source had before it gave these
-pub told_before : (a b : Option (List ℕ)) (taken bytes : List ℕ) → Consumes a b taken → IsTold b bytes → IsTold a (taken ++ bytes)
+pub told_before : (a b : Option (List ℕ)) (taken bytes : List ℕ) → Consumes a b taken → AreKnown b bytes → AreKnown a (taken ++ bytes)
 told_before None b taken bytes p t = tt
 told_before (Some xs) None taken bytes p t = absurd p
 told_before (Some xs) (Some ys) taken bytes p t = p ∙ ap (λ l. taken ++ l) t
 
 -- what is left of a source, where its bytes are known
-pub left_of : (a : Option (List ℕ)) → (left : List ℕ) × IsTold a left
+pub left_of : (a : Option (List ℕ)) → (left : List ℕ) × AreKnown a left
 left_of None = ([], tt)
 left_of (Some bytes) = (bytes, refl)
 
 -- a source at its end has nothing left
-pub none_left : (a : Option (List ℕ)) → IsAtEnd a → IsTold a []
+pub none_left : (a : Option (List ℕ)) → IsAtEnd a → AreKnown a []
 none_left None end = tt
 none_left (Some bytes) end = end
 
@@ -49,7 +49,7 @@ none_left (Some bytes) end = end
 pub comes_of_none : (P : Outcome → Type 0) (old new : Streams) (outcome : Outcome) → P outcome → HaveMoved old new outcome.taken outcome.out outcome.lines
     → HaveReached (λ bytes. P) old new outcome.end
 comes_of_none P old new outcome holds moved =
-    let left = left_of old.source.bytes in record { bytes = left.0; told = left.1; outcome = outcome; holds = holds; ends = refl; moved = moved }
+    let left = left_of old.source.bytes in record { bytes = left.0; known = left.1; outcome = outcome; holds = holds; ends = refl; moved = moved }
 
 -- What a loop has come to, where the streams had moved before.
 pub comes_after : (P Q : List ℕ → Outcome → Type 0) (old now new : Streams) (end : LoopEnd) (taken out lines : List ℕ)
@@ -57,7 +57,7 @@ pub comes_after : (P Q : List ℕ → Outcome → Type 0) (old now new : Streams
     → ((left : List ℕ) (after : Outcome) → P left after → Q (taken ++ left) (onto taken out lines after)) → HaveReached P now new end → HaveReached Q old new end
 comes_after P Q old now new end taken out lines moved reaches comes = record {
   bytes = taken ++ comes.bytes;
-  told = told_before _ _ taken comes.bytes moved.reads comes.told;
+  known = told_before _ _ taken comes.bytes moved.reads comes.known;
   outcome = onto taken out lines comes.outcome;
   holds = reaches comes.bytes comes.outcome comes.holds;
   ends = comes.ends;
@@ -126,7 +126,7 @@ ended_as P Q old new end to ended =
     let comes = ended.comes in record {
       comes = record {
         bytes = comes.bytes;
-        told = comes.told;
+        known = comes.known;
         outcome = comes.outcome;
         holds = to comes.bytes comes.outcome comes.holds;
         ends = comes.ends;
@@ -142,7 +142,7 @@ pub comes_then : (P : List ℕ → Outcome → Type 0) (Q : Outcome → Type 0) 
 comes_then P Q R old mid new within end to takes loop line =
     let none = takes line.outcome line.holds in record {
       bytes = loop.bytes;
-      told = loop.told;
+      known = loop.known;
       outcome = and_then loop.outcome line.outcome;
       holds = to loop.bytes loop.outcome line.outcome loop.holds loop.ends line.holds none;
       ends = line.ends;

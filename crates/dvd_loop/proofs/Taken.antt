@@ -2,7 +2,7 @@
 use Rattle.std.proofs.Common.{◌≡◌, inl, inr, ℕ, zero, suc, ◌+◌, List, [], ◌∷◌, ◌++◌, length, length-append, refl, ap, sym, subst, ◌∙◌, add-one, arith}
 use Rattle.dvd_loop.specs.Laws.{IsFaultless, IsNever}
 use Rattle.dvd_loop.specs.Machine.{Performs, EndsAfterLast, Continues, IsOutcome, Outcome, Units, bad_of, sized}
-use Rattle.dvd_loop.specs.UnitCommand.{told, written}
+use Rattle.dvd_loop.specs.UnitCommand.{reported, written}
 use Rattle.dvd_loop.specs.declared.ends.AfterLast.{AfterLast}
 use Rattle.dvd_loop.specs.declared.ends.AfterLast.TheVariants as after_last
 use Rattle.dvd_loop.specs.declared.ends.LoopEnd.TheVariants.{Done, Long, NoControl, ReadFault, Short}
@@ -13,21 +13,21 @@ use Rattle.dvd_loop.proofs.Sizes.{goes_one}
 use Rattle.dvd_loop.proofs.StepLemmas.{onto}
 
 -- So many bytes are taken, and all of them where one more is asked for after the last unit.
-record TakesAll (stands : AfterLast) (count : ℕ) (bytes : List ℕ) (a : Outcome) : Type 0 where
+record TakesAll (rule : AfterLast) (count : ℕ) (bytes : List ℕ) (a : Outcome) : Type 0 where
   number : length a.taken ≡ count
-  all : stands ≡ after_last.EndOfInput → a.taken ≡ bytes
+  all : rule ≡ after_last.EndOfInput → a.taken ≡ bytes
 
 -- an outcome equal to one that ends as done ends so too
 end_is : (a b : Outcome) → a ≡ b → a.end ≡ Done → b.end ≡ Done
 end_is a b is done = subst (λ (o : Outcome). o.end ≡ Done) is done
 
 -- what takes nothing has taken the bytes of no units, and all there is where one byte more is asked for
-none_taken : (stands : AfterLast) (bytes : List ℕ) (a x : Outcome) → a ≡ x → x.taken ≡ [] → (stands ≡ after_last.EndOfInput → x.taken ≡ bytes)
-    → TakesAll stands 0 bytes a
-none_taken stands bytes a x is none all = subst (TakesAll stands 0 bytes) (sym is) (record { number = ap length none; all = all })
+none_taken : (rule : AfterLast) (bytes : List ℕ) (a x : Outcome) → a ≡ x → x.taken ≡ [] → (rule ≡ after_last.EndOfInput → x.taken ≡ bytes)
+    → TakesAll rule 0 bytes a
+none_taken rule bytes a x is none all = subst (TakesAll rule 0 bytes) (sym is) (record { number = ap length none; all = all })
 
 -- a run that is done takes nothing after the last unit, and none is left where one byte more is asked for
-behind_takes : (stands : AfterLast) (bad : ℕ) (bytes : List ℕ) (a : Outcome) → EndsAfterLast stands bad bytes a → a.end ≡ Done → TakesAll stands 0 bytes a
+behind_takes : (rule : AfterLast) (bad : ℕ) (bytes : List ℕ) (a : Outcome) → EndsAfterLast rule bad bytes a → a.end ≡ Done → TakesAll rule 0 bytes a
 behind_takes after_last.Done bad bytes a is done = none_taken after_last.Done bytes a _ is refl (λ no. absurd cc)
 behind_takes after_last.NoControl bad bytes a is done = absurd (let no : NoControl ≡ Done = end_is a _ is done in cc)
 behind_takes after_last.EndOfInput bad [] a ends done = elim ends [
@@ -40,9 +40,9 @@ behind_takes after_last.EndOfInput bad (byte ∷ left) a ends done = elim ends [
 ]
 
 -- a unit before it adds its own bytes to both
-takes_more : (stands : AfterLast) (own left w t : List ℕ) (count : ℕ) (after : Outcome) → TakesAll stands count left after
-    → TakesAll stands (length own + count) (own ++ left) (onto own w t after)
-takes_more stands own left w t count after takes = record {
+takes_more : (rule : AfterLast) (own left w t : List ℕ) (count : ℕ) (after : Outcome) → TakesAll rule count left after
+    → TakesAll rule (length own + count) (own ++ left) (onto own w t after)
+takes_more rule own left w t count after takes = record {
   number = length-append own after.taken ∙ ap (λ n. length own + n) takes.number;
   all = λ asks. ap (λ l. own ++ l) (takes.all asks);
 }
@@ -81,8 +81,8 @@ module _ (units : Units) (size : ℕ → ℕ) (begins : (k : ℕ) (bytes : List 
         rest_as (length before) bytes a _ t.is (record {
           count = length t.own + rest.count;
           further = omega (arith, later, rest.further);
-          takes = subst (λ l. TakesAll units.after_last (length t.own + rest.count) l (onto t.own (written t.steps) (told t.steps) t.after)) (sym t.front)
-              (takes_more units.after_last t.own t.left (written t.steps) (told t.steps) rest.count t.after rest.takes);
+          takes = subst (λ l. TakesAll units.after_last (length t.own + rest.count) l (onto t.own (written t.steps) (reported t.steps) t.after)) (sym t.prefix)
+              (takes_more units.after_last t.own t.left (written t.steps) (reported t.steps) rest.count t.after rest.takes);
         })
   ]
 

@@ -3,7 +3,7 @@ use Rattle.std.proofs.Common.{◌≡◌, inl, inr, ℕ, zero, suc, ◌+◌, List
 use Rattle.dvd_loop.specs.Laws.{AreTotal, IsFaultless, OutcomeExists}
 use Rattle.dvd_loop.specs.Machine.{Performs, EndsAfterLast, EndsWithin, Continues, ContinuesAfter, Outcome, Step, Units, bad_of, end_by, ended, taking}
 use Rattle.dvd_loop.specs.Machine.Prefix.{Whole, Cut}
-use Rattle.dvd_loop.specs.UnitCommand.{told, written}
+use Rattle.dvd_loop.specs.UnitCommand.{reported, written}
 use Rattle.dvd_loop.specs.declared.ends.AfterLast.{AfterLast}
 use Rattle.dvd_loop.specs.declared.ends.AfterLast.TheVariants as after_last
 use Rattle.dvd_loop.specs.declared.ends.LoopEnd.{LoopEnd}
@@ -18,7 +18,7 @@ Exists A = (outcome : Outcome) × A outcome × IsFaultless outcome.end
 
 -- steps have an outcome without a fault where what comes after them does
 pub steps_exist : (steps : List Step) (A : Outcome → Type 0) → Exists A → Exists (Performs steps A)
-steps_exist steps A (after, holds, none) = (onto [] (written steps) (told steps) after, does_all steps A after holds, none)
+steps_exist steps A (after, holds, none) = (onto [] (written steps) (reported steps) after, does_all steps A after holds, none)
 
 -- whether the unit is the last or not, there is one where there is one of the units to come
 pub kinds_exist : (kind : UnitKind) (A : Outcome → Type 0) → Exists A → Exists (ContinuesAfter kind A)
@@ -32,7 +32,7 @@ end_by_none zero = tt
 end_by_none (suc bad) = tt
 
 -- after the last unit there is an outcome without a fault
-pub behind_exists : (stands : AfterLast) (bad : ℕ) (left : List ℕ) → Exists (EndsAfterLast stands bad left)
+pub behind_exists : (rule : AfterLast) (bad : ℕ) (left : List ℕ) → Exists (EndsAfterLast rule bad left)
 behind_exists after_last.Done bad left = (ended Done, refl, tt)
 behind_exists after_last.NoControl bad left = (ended NoControl, refl, tt)
 behind_exists after_last.EndOfInput bad [] = (ended (end_by bad), inl refl, end_by_none bad)
@@ -53,7 +53,7 @@ module _ (units : Units) where
         inl (record {
           own = bytes;
           left = [];
-          front = sym (append-nil bytes);
+          prefix = sym (append-nil bytes);
           ends = subst (λ part. EndsWithin part (length before) (length bytes) [] short) (sym cut) (inl (refl, refl));
           takes = refl;
         }),
@@ -66,11 +66,11 @@ module _ (units : Units) where
       → (steps : List Step) (kind : UnitKind) → units.does (length before) before own steps kind
       → Exists (Continues units n (before ++ own ∷ []) (bad + bad_of kind) left) → Exists (Continues units (suc n) before bad bytes)
   unfolding Continues
-  taken_exists n before bad bytes own left front whole steps kind does later =
+  taken_exists n before bad bytes own left prefix whole steps kind does later =
       let Next = Continues units n (before ++ own ∷ []) (bad + bad_of kind) left in
       let exists = steps_exist steps (ContinuesAfter kind Next) (kinds_exist kind Next later) in (
         taking own exists.0,
-        inr (taken_then units before _ bytes own left steps kind _ exists.0 front (record { whole = whole; does = does }) exists.1 refl),
+        inr (taken_then units before _ bytes own left steps kind _ exists.0 prefix (record { whole = whole; does = does }) exists.1 refl),
         exists.2,
       )
 
@@ -91,17 +91,17 @@ module _ (units : Units) (total : AreTotal units) where
       let closing = total.closes before (omega arith) in
       closed_exists units before bad bytes closing.0 closing.1
   goes_exist (suc n) before bad bytes all = elim (total.begins (length before) bytes (omega arith)) [
-    | inl (own, left, front, whole) ↦
+    | inl (own, left, prefix, whole) ↦
         let unit = total.does before own (omega arith) whole in
-        taken_exists units n before bad bytes own left front whole unit.0 unit.1 unit.2
+        taken_exists units n before bad bytes own left prefix whole unit.0 unit.1 unit.2
         (goes_exist n (before ++ own ∷ []) (bad + bad_of unit.1) left (one_fewer before own n units.count all))
     | inr (inl cut) ↦ cut_exists units n before bad bytes cut
-    | inr (inr (own, left, at, front, broken)) ↦ (
+    | inr (inr (own, left, at, prefix, broken)) ↦ (
       taking own (ended (BadMarks (length before) at)),
       inl (record {
         own = own;
         left = left;
-        front = front;
+        prefix = prefix;
         ends = subst (λ part. EndsWithin part (length before) (length own) left (BadMarks (length before) at)) (sym broken) (inl refl);
         takes = refl;
       }),

@@ -8,9 +8,9 @@ use Rattle.dvd_ports.proofs.KnownLemmas.{Appends-none}
 use Rattle.dvd_ports.proofs.StopLemmas.{unmoved}
 use Rattle.dvd_loop.specs.Machine.{Performs, EndsWithin, IsUnit, Step, Units, ended, sized, stepping, taking}
 use Rattle.dvd_loop.specs.Machine.Prefix.{Cut}
-use Rattle.dvd_loop.specs.Machine.Step.{Write, Tell}
-use Rattle.dvd_loop.specs.Streams.{HaveReached, HaveCauses, HaveGoneOn, HaveMoved, IsTold, Streams, streams}
-use Rattle.dvd_loop.specs.UnitCommand.{AreDone, AreSteps, EndsAt, EndsShort, HaveCausesFor, IsProcessed, Nothing, told, written}
+use Rattle.dvd_loop.specs.Machine.Step.{Write, Report}
+use Rattle.dvd_loop.specs.Streams.{HaveReached, HaveCauses, HaveGoneOn, HaveMoved, AreKnown, Streams, streams}
+use Rattle.dvd_loop.specs.UnitCommand.{AreDone, AreSteps, EndsAt, EndsShort, HaveCausesFor, IsProcessed, Nothing, reported, written}
 use Rattle.dvd_loop.specs.declared.ends.LoopEnd.{LoopEnd}
 use Rattle.dvd_loop.specs.declared.ends.LoopEnd.TheVariants.{ReportFault, WriteFault}
 use Rattle.dvd_loop.specs.declared.ends.UnitKind.{UnitKind}
@@ -26,18 +26,18 @@ err_is (Err e) end is = ap (λ x. Err x) is
 module _ (units : Units) (before : List (List ℕ)) where
   -- the loop ends within the unit, after these of its bytes, those being left
   pub within_unit : (ready : List (List ℕ) → Type 0) (source new_source output report : Seen) (end : LoopEnd) (own left : List ℕ)
-      → Consumes source.bytes new_source.bytes own → IsTold new_source.bytes left
+      → Consumes source.bytes new_source.bytes own → AreKnown new_source.bytes left
       → EndsWithin (units.begins (length before) own) (length before) (length own) left end
       → HaveCauses end end (streams source output report) (streams new_source output report)
       → IsProcessed units before ready (streams source output report) (streams new_source output report) (Err end)
-  within_unit ready source new_source output report end own left reads told ends causes = record {
+  within_unit ready source new_source output report end own left reads reported ends causes = record {
     comes = record {
       bytes = own ++ left;
-      told = told_before source.bytes new_source.bytes own left reads told;
+      known = told_before source.bytes new_source.bytes own left reads reported;
       outcome = taking own (ended end);
-      holds = inl (record { own = own; left = left; front = refl; ends = ends; takes = refl });
+      holds = inl (record { own = own; left = left; prefix = refl; ends = ends; takes = refl });
       ends = refl;
-      moved = record { reads = subst (Consumes source.bytes new_source.bytes) (sym (append-nil own)) reads; writes = Appends-none output.bytes; tells = Appends-none report.bytes };
+      moved = record { reads = subst (Consumes source.bytes new_source.bytes) (sym (append-nil own)) reads; writes = Appends-none output.bytes; reports = Appends-none report.bytes };
     };
     causes = causes;
   }
@@ -52,10 +52,10 @@ module _ (units : Units) (before : List (List ℕ)) where
     | inr failed ↦ within (left_of new_source.bytes).0 (left_of new_source.bytes).1 (inr failed)
   ]
     where
-      within : (left : List ℕ) → IsTold new_source.bytes left → EndsWithin Cut (length before) (length short.own) left end
+      within : (left : List ℕ) → AreKnown new_source.bytes left → EndsWithin Cut (length before) (length short.own) left end
           → IsProcessed units before ready (streams source output report) (streams new_source output report) (Err end)
-      within left told ends =
-          within_unit ready source new_source output report end short.own left short.reads told
+      within left reported ends =
+          within_unit ready source new_source output report end short.own left short.reads reported
           (subst (λ p. EndsWithin p (length before) (length short.own) left end) (sym (cut short.own short.fewer)) ends) causes
 
   -- the unit was read whole, and steps that may be taken for it were: all of them, or the loop ended within them
@@ -67,7 +67,7 @@ module _ (units : Units) (before : List (List ℕ)) where
     own = own;
     steps = steps;
     unit = subst (IsUnit units before own steps) (sym (same value refl)) unit;
-    moved = subst (λ l. HaveMoved old new l (written steps) (told steps)) (append-nil own) (moves_on old now new own [] [] [] (written steps) (told steps) moved done);
+    moved = subst (λ l. HaveMoved old new l (written steps) (reported steps)) (append-nil own) (moves_on old now new own [] [] [] (written steps) (reported steps) moved done);
     causes = go_on old now new first causes;
     next = next;
   }
@@ -84,7 +84,7 @@ module _ (source output new_output report : Seen) where
   step_written bytes writes = record {
     reads = Consumes-none source.bytes;
     writes = subst (Appends output.bytes new_output.bytes) (sym (append-nil bytes)) writes;
-    tells = Appends-none report.bytes;
+    reports = Appends-none report.bytes;
   }
 
   -- the output failed within the write: a front of its bytes came, and no step after it was taken
@@ -98,34 +98,34 @@ module _ (source output report new_report : Seen) where
   -- one line, whole or begun
   pub step_told : (line : List ℕ) → Appends report.bytes new_report.bytes line
       → HaveMoved (streams source output report) (streams source output new_report) [] [] (line ++ [])
-  step_told line tells = record {
+  step_told line reports = record {
     reads = Consumes-none source.bytes;
     writes = Appends-none output.bytes;
-    tells = subst (Appends report.bytes new_report.bytes) (sym (append-nil line)) tells;
+    reports = subst (Appends report.bytes new_report.bytes) (sym (append-nil line)) reports;
   }
 
   -- the report failed within the line: a front of it came, and no step after it was taken
   pub line_begun : (line : List ℕ) (steps : List Step) → AppendsPrefix report.bytes new_report.bytes line
-      → HaveReached (λ input. Performs (Tell line ∷ steps) Nothing) (streams source output report) (streams source output new_report) ReportFault
+      → HaveReached (λ input. Performs (Report line ∷ steps) Nothing) (streams source output report) (streams source output new_report) ReportFault
   line_begun line steps begun =
-      comes_of_none (Performs (Tell line ∷ steps) Nothing) (streams source output report) (streams source output new_report) (stepping (Tell begun.taken) (ended ReportFault))
+      comes_of_none (Performs (Report line ∷ steps) Nothing) (streams source output report) (streams source output new_report) (stepping (Report begun.taken) (ended ReportFault))
       (inl (begun.taken, begun.rest, sym begun.whole, begun.more, refl)) (step_told begun.taken begun.grows)
 
 -- steps after a line that was reported
-pub steps_behind_line : (line : List ℕ) (steps : List Step) (old now new : Streams) {A : Type 0} (answer : Result A LoopEnd)
-    → HaveMoved old now [] [] (line ++ []) → AreSteps steps now new answer → AreSteps (Tell line ∷ steps) old new answer
-steps_behind_line line steps old now new (Ok value) told_line done =
-    subst (λ l. HaveMoved old new [] (written steps) (l ++ told steps)) (append-nil line) (moves_on old now new [] [] (line ++ []) [] (written steps) (told steps) told_line done)
-steps_behind_line line steps old now new (Err end) told_line done =
-    comes_after (λ bytes. Performs steps Nothing) (λ bytes. Performs (Tell line ∷ steps) Nothing) old now new end [] [] (line ++ []) told_line
+pub steps_after_line : (line : List ℕ) (steps : List Step) (old now new : Streams) {A : Type 0} (answer : Result A LoopEnd)
+    → HaveMoved old now [] [] (line ++ []) → AreSteps steps now new answer → AreSteps (Report line ∷ steps) old new answer
+steps_after_line line steps old now new (Ok value) told_line done =
+    subst (λ l. HaveMoved old new [] (written steps) (l ++ reported steps)) (append-nil line) (moves_on old now new [] [] (line ++ []) [] (written steps) (reported steps) told_line done)
+steps_after_line line steps old now new (Err end) told_line done =
+    comes_after (λ bytes. Performs steps Nothing) (λ bytes. Performs (Report line ∷ steps) Nothing) old now new end [] [] (line ++ []) told_line
     (λ left after does. inr (after, does, ap (λ l. onto [] [] l after) (append-nil line))) done
 
 -- steps after bytes that were written
-pub steps_behind_write : (bytes : List ℕ) (steps : List Step) (old now new : Streams) {A : Type 0} (answer : Result A LoopEnd)
+pub steps_after_write : (bytes : List ℕ) (steps : List Step) (old now new : Streams) {A : Type 0} (answer : Result A LoopEnd)
     → HaveMoved old now [] (bytes ++ []) [] → AreSteps steps now new answer → AreSteps (Write bytes ∷ steps) old new answer
-steps_behind_write bytes steps old now new (Ok value) wrote done =
-    subst (λ l. HaveMoved old new [] (l ++ written steps) (told steps)) (append-nil bytes) (moves_on old now new [] (bytes ++ []) [] [] (written steps) (told steps) wrote done)
-steps_behind_write bytes steps old now new (Err end) wrote done =
+steps_after_write bytes steps old now new (Ok value) wrote done =
+    subst (λ l. HaveMoved old new [] (l ++ written steps) (reported steps)) (append-nil bytes) (moves_on old now new [] (bytes ++ []) [] [] (written steps) (reported steps) wrote done)
+steps_after_write bytes steps old now new (Err end) wrote done =
     comes_after (λ input. Performs steps Nothing) (λ input. Performs (Write bytes ∷ steps) Nothing) old now new end [] (bytes ++ []) [] wrote
     (λ left after does. inr (after, does, ap (λ l. onto [] l [] after) (append-nil bytes))) done
 
@@ -181,5 +181,5 @@ module _ (units : Units) (size : ℕ → ℕ) (begins : (k : ℕ) (own : List �
         whole = begins (length before) own ∙ ap (λ j. sized (size j) own) number ∙ (sized_whole (size k) own).1 whole;
         does = subst (λ j. units.does j before own done.steps done.kind) (sym number) done.may;
       })
-      (record { reads = reads; writes = Appends-none output.bytes; tells = Appends-none report.bytes })
+      (record { reads = reads; writes = Appends-none output.bytes; reports = Appends-none report.bytes })
       causes next answer done.done done.is done.causes

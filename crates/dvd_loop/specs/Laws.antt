@@ -57,11 +57,11 @@ ReadFaultEndsInput units =
 
 -- one list is a prefix of the other
 abbrev pub IsPrefixOf : List ℕ → List ℕ → Type 0
-IsPrefixOf front whole = (left : List ℕ) × (whole ≡ front ++ left)
+IsPrefixOf prefix whole = (left : List ℕ) × (whole ≡ prefix ++ left)
 
 -- After any fault the output and the report have a prefix of what they would have without it.
-abbrev pub FaultsLeaveFronts : Units → Type 0
-FaultsLeaveFronts units =
+abbrev pub FaultsLeavePrefixes : Units → Type 0
+FaultsLeavePrefixes units =
     AreTotal units → (bytes : List ℕ) (a : Outcome) → IsOutcome units bytes a
     → (b : Outcome) × IsOutcome units bytes b × IsFaultless b.end × IsPrefixOf a.out b.out × IsPrefixOf a.lines b.lines
 
@@ -113,7 +113,7 @@ IsOver end = ⊥
 
 -- The end says how long the input is: it ended in a unit, or after the last one, or it goes on there. At most all units
 -- and one more byte are read.
-pub record TellsLength (count size : ℕ) (bytes : List ℕ) (outcome : Outcome) : Type 0 where
+pub record GivesLength (count size : ℕ) (bytes : List ℕ) (outcome : Outcome) : Type 0 where
   pub short : (k held : ℕ) → (outcome.end ≡ Short k held) ↔ ((k < count) × (held < size) × (length bytes ≡ k * size + held))
   pub over : IsOver outcome.end ↔ (length bytes ≡ count * size)
   pub long : (outcome.end ≡ Long) ↔ (count * size < length bytes)
@@ -122,4 +122,4 @@ pub record TellsLength (count size : ℕ) (bytes : List ℕ) (outcome : Outcome)
 -- Without a fault the end follows from the length of the input.
 abbrev pub EndsBySize : Units → Type 0
 EndsBySize units =
-    (size : ℕ) → AreOfOneSize units size → (bytes : List ℕ) (a : Outcome) → IsOutcome units bytes a → IsFaultless a.end → TellsLength units.count size bytes a
+    (size : ℕ) → AreOfOneSize units size → (bytes : List ℕ) (a : Outcome) → IsOutcome units bytes a → IsFaultless a.end → GivesLength units.count size bytes a

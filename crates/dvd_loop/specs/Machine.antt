@@ -19,7 +19,7 @@ pub data Prefix : Type 0 where
 -- one step: bytes are written to the output, or a line is written to the report
 pub data Step : Type 0 where
   Write : List ℕ → Step
-  Tell : List ℕ → Step
+  Report : List ℕ → Step
 
 -- How many units there are, and how the bytes of unit k begin. What is done before anything is read. What may be done
 -- for unit k, by the units before it and its own bytes, and which kind of unit it then is. What may be done after the
@@ -52,12 +52,12 @@ taking own after = record after { taken = own ++ after.taken }
 -- a step was done, and then came the rest
 abbrev pub stepping : Step → Outcome → Outcome
 stepping (Write bytes) after = record after { out = bytes ++ after.out }
-stepping (Tell line) after = record after { lines = line ++ after.lines }
+stepping (Report line) after = record after { lines = line ++ after.lines }
 
 -- the stream failed within the step: a prefix of it was done, and something was left
 abbrev pub Fails : Step → Outcome → Type 0
-Fails (Write bytes) outcome = (front left : List ℕ) × (bytes ≡ front ++ left) × (left ≢ []) × (outcome ≡ stepping (Write front) (ended WriteFault))
-Fails (Tell line) outcome = (front left : List ℕ) × (line ≡ front ++ left) × (left ≢ []) × (outcome ≡ stepping (Tell front) (ended ReportFault))
+Fails (Write bytes) outcome = (prefix left : List ℕ) × (bytes ≡ prefix ++ left) × (left ≢ []) × (outcome ≡ stepping (Write prefix) (ended WriteFault))
+Fails (Report line) outcome = (prefix left : List ℕ) × (line ≡ prefix ++ left) × (left ≢ []) × (outcome ≡ stepping (Report prefix) (ended ReportFault))
 
 -- The steps are done one after the other, and After holds of the rest; or one of them fails, and nothing follows.
 abbrev pub Performs : List Step → (Outcome → Type 0) → Outcome → Type 0
@@ -75,7 +75,7 @@ EndsWithin (Broken at) k held left end = (end ≡ BadMarks k at) ⊎ (end ≡ Re
 pub record IsEndedWithin (units : Units) (k : ℕ) (bytes : List ℕ) (outcome : Outcome) : Type 0 where
   pub own : List ℕ
   pub left : List ℕ
-  pub front : bytes ≡ own ++ left
+  pub prefix : bytes ≡ own ++ left
   pub ends : EndsWithin (units.begins k own) k (length own) left outcome.end
   pub takes : outcome ≡ taking own (ended outcome.end)
 
@@ -91,7 +91,7 @@ pub record IsTaken (units : Units) (before : List (List ℕ)) (After : List ℕ 
   pub left : List ℕ
   pub steps : List Step
   pub kind : UnitKind
-  pub front : bytes ≡ own ++ left
+  pub prefix : bytes ≡ own ++ left
   pub unit : IsUnit units before own steps kind
   pub after : Outcome
   pub does : Performs steps (After own left kind) after
@@ -137,7 +137,7 @@ IsOutcome units bytes outcome = Performs units.opens (Continues units units.coun
 -- ends the run.
 abbrev pub Closes : (LoopEnd → List ℕ) → LoopEnd → Outcome → Type 0
 Closes closing ReportFault outcome = outcome ≡ ended ReportFault
-Closes closing end outcome = Performs (Tell (closing end) ∷ []) (λ after. after ≡ ended end) outcome
+Closes closing end outcome = Performs (Report (closing end) ∷ []) (λ after. after ≡ ended end) outcome
 
 -- A possible loop that ended in this way, and its closing line.
 pub record IsClosed (closing : LoopEnd → List ℕ) (May : Outcome → Type 0) (within : LoopEnd) (outcome : Outcome) : Type 0 where

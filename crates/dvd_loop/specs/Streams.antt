@@ -22,21 +22,21 @@ abbrev pub no_stream : Seen
 no_stream = record { bytes = None; faults = 0; ends = 0; stopped = false }
 
 -- the bytes of a stream, where they are known, are these
-abbrev pub IsTold : Option (List ℕ) → List ℕ → Type 0
-IsTold None bytes = Unit {0}
-IsTold (Some told) bytes = told ≡ bytes
+abbrev pub AreKnown : Option (List ℕ) → List ℕ → Type 0
+AreKnown None bytes = Unit {0}
+AreKnown (Some known) bytes = known ≡ bytes
 
 -- the source has given what was read, and the output and the report have grown by what was written to them
 pub record HaveMoved (old new : Streams) (taken out lines : List ℕ) : Type 0 where
   pub reads : Consumes old.source.bytes new.source.bytes taken
   pub writes : Appends old.output.bytes new.output.bytes out
-  pub tells : Appends old.report.bytes new.report.bytes lines
+  pub reports : Appends old.report.bytes new.report.bytes lines
 
 -- There are bytes, those of the source where they are known, and an outcome of P over them with this end, and the
 -- streams have moved by that outcome.
 pub record HaveReached (P : List ℕ → Outcome → Type 0) (old new : Streams) (end : LoopEnd) : Type 0 where
   pub bytes : List ℕ
-  pub told : IsTold old.source.bytes bytes
+  pub known : AreKnown old.source.bytes bytes
   pub outcome : Outcome
   pub holds : P bytes outcome
   pub ends : outcome.end ≡ end

@@ -3,7 +3,7 @@ use Rattle.std.specs.Prelude.{◌≡◌, ◌<◌, ◌⊎◌, ℕ, List, [], ◌�
 use Rattle.std.specs.Io.KnownBytes.{Consumes, IsAtEnd}
 use Rattle.dvd_ports.specs.Seen.{Seen}
 use Rattle.dvd_loop.specs.Machine.{Performs, IsUnit, IsTaken, IsEndedWithin, Outcome, Step, Units}
-use Rattle.dvd_loop.specs.Machine.Step.{Write, Tell}
+use Rattle.dvd_loop.specs.Machine.Step.{Write, Report}
 use Rattle.dvd_loop.specs.Streams.{HaveReached, HasEnded, HaveCauses, HaveGoneOn, HaveMoved, Streams, streams}
 use Rattle.dvd_loop.specs.declared.ends.AfterLast.TheVariants.{EndOfInput}
 use Rattle.dvd_loop.specs.declared.ends.LoopEnd.{LoopEnd}
@@ -14,13 +14,13 @@ use Rattle.dvd_loop.specs.declared.ends.UnitKind.{UnitKind}
 abbrev pub written : List Step → List ℕ
 written [] = []
 written (Write bytes ∷ steps) = bytes ++ written steps
-written (Tell line ∷ steps) = written steps
+written (Report line ∷ steps) = written steps
 
 -- the lines that these steps report
-abbrev pub told : List Step → List ℕ
-told [] = []
-told (Write bytes ∷ steps) = told steps
-told (Tell line ∷ steps) = line ++ told steps
+abbrev pub reported : List Step → List ℕ
+reported [] = []
+reported (Write bytes ∷ steps) = reported steps
+reported (Report line ∷ steps) = line ++ reported steps
 
 -- nothing follows
 abbrev pub Nothing : Outcome → Type 0
@@ -28,7 +28,7 @@ Nothing after = ⊥
 
 -- Steps that are done without the source: all of them, or the loop ends within them.
 abbrev pub AreSteps : {A : Type 0} → List Step → Streams → Streams → Result A LoopEnd → Type 0
-AreSteps steps old new (Ok value) = HaveMoved old new [] (written steps) (told steps)
+AreSteps steps old new (Ok value) = HaveMoved old new [] (written steps) (reported steps)
 AreSteps steps old new (Err end) = HaveReached (λ bytes. Performs steps Nothing) old new end
 
 -- the counts of the streams by a call's answer
@@ -63,7 +63,7 @@ pub record IsUnitDone (units : Units) (before : List (List ℕ)) (ready : List (
   pub own : List ℕ
   pub steps : List Step
   pub unit : IsUnit units before own steps kind
-  pub moved : HaveMoved old new own (written steps) (told steps)
+  pub moved : HaveMoved old new own (written steps) (reported steps)
   pub causes : HaveGoneOn old new
   pub next : ready (before ++ own ∷ [])
 

@@ -7,7 +7,7 @@
 //! over some bytes is what was read of them, the output, the report without its closing line, and the end. It is one
 //! that these units allow. A fault is a failed read, a failed write or a failed line, each of which ends the run.
 ghost use Rattle.std.specs.Prelude.{◌≡◌};
-ghost use Rattle.dvd_loop.specs.Laws.{OutcomesAgree, OutcomeExists, ReadFaultEndsInput, FaultsLeaveFronts, EndsBySize};
+ghost use Rattle.dvd_loop.specs.Laws.{OutcomesAgree, OutcomeExists, ReadFaultEndsInput, FaultsLeavePrefixes, EndsBySize};
 
 use crate::UnitCommand;
 use dvd_ports::{Sink, Source};
@@ -35,8 +35,8 @@ pub fn a_read_fault_ends_the_input<C: UnitCommand<S, K, E>, S: Source, K: Sink, 
 /// For each outcome, also one that a fault ended, there is one of the same bytes that no fault ended, whose output and
 /// report begin with those of the first. It is assumed, as for `an_outcome_exists`, that something may be done in each
 /// case.
-pub fn faults_leave_fronts<C: UnitCommand<S, K, E>, S: Source, K: Sink, E: Sink>()
-    ensures { (key : C.Key) → FaultsLeaveFronts (C.units key) }
+pub fn faults_leave_prefixes<C: UnitCommand<S, K, E>, S: Source, K: Sink, E: Sink>()
+    ensures { (key : C.Key) → FaultsLeavePrefixes (C.units key) }
 {}
 
 /// Where all units have one size, none ends the run as the one that was looked for, and one more byte is requested

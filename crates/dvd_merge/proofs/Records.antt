@@ -31,17 +31,17 @@ first_number-more marks k mark within is =
 pub cell_more : {B : Type 0} (f : Place → B) (places : List Place) (cells : List B) (j : ℕ) (cell : B) → j < length places → j < length cells
     → take j cells ≡ map f (take j places) → cell ≡ f (get_or places j Unseen) → take (j + 1) (set cells j cell) ≡ map f (take (j + 1) places)
 cell_more f places cells j cell in_places in_cells before is =
-    take_more_set cells j cell in_cells ∙ ap (λ front. front ++ cell ∷ []) before ∙ ap (λ c. map f (take j places) ++ c ∷ []) is
+    take_more_set cells j cell in_cells ∙ ap (λ prefix. prefix ++ cell ∷ []) before ∙ ap (λ c. map f (take j places) ++ c ∷ []) is
     ∙ sym (map-append f (take j places) (get_or places j Unseen ∷ [])) ∙ ap (map f) (sym (take_more places j Unseen in_places))
 
 -- all cells, and what is after them
 pub cells_all : {B : Type 0} (f : Place → B) (places : List Place) (cells old : List B) (j n : ℕ) → n ≤ j → j ≤ n → length places ≡ n
     → take j cells ≡ map f (take j places) → drop n cells ≡ drop n old → cells ≡ map f places ++ drop n old
-cells_all f places cells old j n least most size front behind =
+cells_all f places cells old j n least most size prefix past =
     let last : j ≡ n = omega (arith, least, most) in
     sym (take-append-drop n cells)
-    ∙ ap (λ l. l ++ drop n cells) (ap (λ k. take k cells) (sym last) ∙ front ∙ ap (map f) (take_all j places (omega (arith, size, last))))
-    ∙ ap (λ l. map f places ++ l) behind
+    ∙ ap (λ l. l ++ drop n cells) (ap (λ k. take k cells) (sym last) ∙ prefix ∙ ap (map f) (take_all j places (omega (arith, size, last))))
+    ∙ ap (λ l. map f places ++ l) past
 
 -- a list that is joined at each place is the join
 pub zipped_all : {A B C : Type 0} (f : A → B → C) (xs : List A) (ys : List B) (zs : List C) (n : ℕ) (a : A) (b : B) (c : C)

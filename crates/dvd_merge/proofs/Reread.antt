@@ -138,14 +138,14 @@ module _ (table : Table) (height : length table ≡ 208) (widths : All (λ row. 
       ∙ ap (line (map marked_row table)) (row_at-record_at i below) ∙ row_is i below
 
   -- its first 182 bytes are those of row i of the table
-  front : (i : ℕ) → i < 208 → take 182 (marked_row (known_row table i)) ≡ map byte_of (known_row table i)
+  prefix : (i : ℕ) → i < 208 → take 182 (marked_row (known_row table i)) ≡ map byte_of (known_row table i)
   unfolding marked_row
-  front i below = part-append (map byte_of (known_row table i)) (mark_bytes (map joined_mark (known_row table i))) 0 182 (omega (arith, bytes_long i below)) ∙ take_all 182 (map byte_of (known_row table i)) (omega (arith, bytes_long i below))
+  prefix i below = part-append (map byte_of (known_row table i)) (mark_bytes (map joined_mark (known_row table i))) 0 182 (omega (arith, bytes_long i below)) ∙ take_all 182 (map byte_of (known_row table i)) (omega (arith, bytes_long i below))
 
   -- and the 23 after them are read as its marks
-  behind : (i : ℕ) → i < 208 → marks_in Marked (marked_row (known_row table i)) ≡ map joined_mark (known_row table i)
+  past : (i : ℕ) → i < 208 → marks_in Marked (marked_row (known_row table i)) ≡ map joined_mark (known_row table i)
   unfolding marked_row
-  behind i below =
+  past i below =
       let marks : List Bool = map joined_mark (known_row table i) in
       let bits : drop 182 (map byte_of (known_row table i) ++ mark_bytes marks) ≡ mark_bytes marks =
       subst (λ n. drop n (map byte_of (known_row table i) ++ mark_bytes marks) ≡ mark_bytes marks) (bytes_long i below) (drop-append_seam (map byte_of (known_row table i)) (mark_bytes marks)) in
@@ -156,7 +156,7 @@ module _ (table : Table) (height : length table ≡ 208) (widths : All (λ row. 
   unfolding captured_rows joined_rows
   rows_read =
       sym (mapped row (joined_rows table) 208 [] joined_size
-      (λ i below. bytes-row table i ∙ sym (ap (take 182) (record_is i below) ∙ front i below)))
+      (λ i below. bytes-row table i ∙ sym (ap (take 182) (record_is i below) ∙ prefix i below)))
     where
       row : ℕ → List ℕ
       row i = take 182 (record_of Marked (marked_text table) (record_at i))
@@ -169,7 +169,7 @@ module _ (table : Table) (height : length table ≡ 208) (widths : All (λ row. 
   unfolding captured_marks joined_marks
   marks_read =
       sym (mapped row (joined_marks table) 208 [] joined_size
-      (λ i below. marks-row table i ∙ sym (ap (marks_in Marked) (record_is i below) ∙ behind i below)))
+      (λ i below. marks-row table i ∙ sym (ap (marks_in Marked) (record_is i below) ∙ past i below)))
     where
       row : ℕ → List Bool
       row i = marks_in Marked (record_of Marked (marked_text table) (record_at i))

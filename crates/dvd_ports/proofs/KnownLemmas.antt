@@ -3,7 +3,7 @@ use Rattle.std.proofs.Common.{◌≡◌, ◌≢◌, ℕ, ◌+◌, ◌-◌, ◌<�
 use Rattle.std.proofs.Math.Seq.{take-add, take-append-add}
 use Rattle.std.proofs.lemmas.List.{take_at, take_all, take-append-le, length-take, length-take-le}
 use Rattle.std.specs.Io.KnownBytes.{Appends, Consumes, Keeps, WriteAppends}
-use Rattle.dvd_ports.specs.Whole.{AppendsFront, AppendsPrefix}
+use Rattle.dvd_ports.specs.Whole.{AppendsSomePrefix, AppendsPrefix}
 
 -- where nothing happens, no bytes are appended
 pub Appends-none : (a : Option (List ℕ)) → Appends a a []
@@ -46,13 +46,13 @@ write_begun old mid new piece i before kept inside = record {
 }
 
 -- whether it failed or not, a write took a front of the piece
-pub write_front : {E : Type 0} (old new : Option (List ℕ)) (result : Result ℕ E) (piece : List ℕ) → WriteAppends old new result piece → AppendsFront old new piece
-write_front old new (Ok n) piece took = record { taken = take n piece; rest = drop n piece; grows = took; whole = take-append-drop n piece }
-write_front old new (Err e) piece kept = record { taken = []; rest = piece; grows = Appends-kept old old new [] (Appends-none old) kept; whole = refl }
+pub write_prefix : {E : Type 0} (old new : Option (List ℕ)) (result : Result ℕ E) (piece : List ℕ) → WriteAppends old new result piece → AppendsSomePrefix old new piece
+write_prefix old new (Ok n) piece took = record { taken = take n piece; rest = drop n piece; grows = took; whole = take-append-drop n piece }
+write_prefix old new (Err e) piece kept = record { taken = []; rest = piece; grows = Appends-kept old old new [] (Appends-none old) kept; whole = refl }
 
 -- what was taken stays where nothing more was
-pub front_kept : (old mid new : Option (List ℕ)) (piece : List ℕ) → AppendsFront old mid piece → Keeps mid new → AppendsFront old new piece
-front_kept old mid new piece front kept = record { taken = front.taken; rest = front.rest; grows = Appends-kept old mid new front.taken front.grows kept; whole = front.whole }
+pub prefix_kept : (old mid new : Option (List ℕ)) (piece : List ℕ) → AppendsSomePrefix old mid piece → Keeps mid new → AppendsSomePrefix old new piece
+prefix_kept old mid new piece prefix kept = record { taken = prefix.taken; rest = prefix.rest; grows = Appends-kept old mid new prefix.taken prefix.grows kept; whole = prefix.whole }
 
 -- a write takes the first of the bytes of the piece from the i-th on
 pub writes_more : (old mid new : Option (List ℕ)) (piece : List ℕ) (i n : ℕ)
@@ -80,17 +80,17 @@ reads_inside buf got rest i n inside some =
     omega (arith, length-append (take i buf) (got ++ rest), length-append got rest, length-take-le i buf inside)
 
 -- a read that gives the first bytes of what is left consumes them, and gives none only at the end
-pub gives_front : (left new_left old new : List ℕ) (n step : ℕ)
+pub gives_prefix : (left new_left old new : List ℕ) (n step : ℕ)
     → 1 ≤ step
     → length new ≡ length old
     → n ≡ min step (min (length old) (length left))
     → new ≡ take n left ++ drop n old
     → new_left ≡ drop n left
     → (left ≡ take n new ++ new_left) × (n ≡ 0 → 0 < length new → new_left ≡ [])
-gives_front left new_left old new n step one same is fills leaves =
+gives_prefix left new_left old new n step one same is fills leaves =
     let size : length (take n left) ≡ n = length-take n left ∙ omega arith in
-    let front : take n new ≡ take n left = ap (take n) fills ∙ take_at (take n left) (drop n old) n size in (
-      sym (take-append-drop n left) ∙ ap (λ l. l ++ drop n left) (sym front) ∙ ap (λ l. take n new ++ l) (sym leaves),
+    let prefix : take n new ≡ take n left = ap (take n) fills ∙ take_at (take n left) (drop n old) n size in (
+      sym (take-append-drop n left) ∙ ap (λ l. l ++ drop n left) (sym prefix) ∙ ap (λ l. take n new ++ l) (sym leaves),
       λ none some. leaves ∙ ap (λ k. drop k left) none ∙ empty left (omega arith),
     )
   where

@@ -5,7 +5,7 @@ use Rattle.dvd_ports.specs.Causes.{HasCause}
 use Rattle.dvd_ports.specs.Seen.{Seen}
 
 -- known bytes grew by a prefix of the piece, or by all of it
-pub record AppendsFront (old new : Option (List ℕ)) (piece : List ℕ) : Type 0 where
+pub record AppendsSomePrefix (old new : Option (List ℕ)) (piece : List ℕ) : Type 0 where
   pub taken : List ℕ
   pub rest : List ℕ
   pub grows : Appends old new taken

@@ -7,7 +7,7 @@ ghost use Rattle.std.specs.Prelude.{◌≡◌, ◌<◌, length, take, None, IfOk
 ghost use Rattle.std.specs.Io.KnownBytes.{Appends};
 ghost use Rattle.dvd_ports.specs.Calls.{IsRead, IsWrite};
 ghost use Rattle.dvd_ports.specs.Causes.{next_count};
-ghost use Rattle.dvd_ports.specs.Whole.{AppendsFront};
+ghost use Rattle.dvd_ports.specs.Whole.{AppendsSomePrefix};
 
 use crate::{Failed, Sink, Source};
 use std::io::{Read, Write};
@@ -109,7 +109,7 @@ impl<W: Write> Sink for StdSink<W> {
     ghost seen = { λ s. record { bytes = None; faults = s.faults; ends = 0; stopped = s.stopped } };
 
     // For the prover, two lemmas: a write takes a prefix of the piece, whether it fails or not, and a flush no more.
-    #[tactic(auto, using(crate::proofs::KnownLemmas::write_front, crate::proofs::KnownLemmas::front_kept))]
+    #[tactic(auto, using(crate::proofs::KnownLemmas::write_prefix, crate::proofs::KnownLemmas::prefix_kept))]
     fn write(&mut self, buf: &[u8]) -> Result<usize, Failed>
         ensures counts { (⟦<StdSink<W> as Sink>⟧.seen self.new).faults
             ≡ (if is_ok result then (⟦<StdSink<W> as Sink>⟧.seen self.old).faults
@@ -118,7 +118,7 @@ impl<W: Write> Sink for StdSink<W> {
         // What std knows of the writer's bytes. Where only the flush failed, the writer may have the whole piece.
         ensures written { IfOk result (λ count.
             Appends (W.contents (sink_writer self.old)) (W.contents (sink_writer self.new)) (take count buf.now)) }
-        ensures begun { OnErr result (AppendsFront (W.contents (sink_writer self.old)) (W.contents (sink_writer self.new)) buf.now) }
+        ensures begun { OnErr result (AppendsSomePrefix (W.contents (sink_writer self.old)) (W.contents (sink_writer self.new)) buf.now) }
 
         // As every sink.
         ensures call { IsWrite (⟦<StdSink<W> as Sink>⟧.seen self.old) (⟦<StdSink<W> as Sink>⟧.seen self.new) result buf.now }

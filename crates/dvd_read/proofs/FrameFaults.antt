@@ -17,8 +17,8 @@ use Rattle.dvd_decoding.specs.declared.cause.Cause.{Cause}
 use Rattle.dvd_decoding.specs.Frames.{cause_in, fault_at, frame_of, frames_cause, main_data, wanted_word}
 
 -- places 0 to 171 of the first n rows of frame f
-abbrev pub fronts : List (List ℕ) → ℕ → ℕ → List ℕ
-fronts block f n = flat_map (λ q. take 172 (line block (12 * f + q))) (range_with_len 0 n)
+abbrev pub prefixes : List (List ℕ) → ℕ → ℕ → List ℕ
+prefixes block f n = flat_map (λ q. take 172 (line block (12 * f + q))) (range_with_len 0 n)
 
 -- what a function gives of n + 1 numbers
 flat_map-next : {X : Type 0} (h : ℕ → List X) (n : ℕ) → flat_map h (range_with_len 0 (n + 1)) ≡ flat_map h (range_with_len 0 n) ++ h n
@@ -28,20 +28,20 @@ flat_map-next h n =
     ap (flat_map h) more ∙ flat_map-append h (range_with_len 0 n) (n ∷ []) ∙ ap (λ l. flat_map h (range_with_len 0 n) ++ l) (append-nil (h n))
 
 -- the front of one row more comes after the others
-pub fronts-more : (block : List (List ℕ)) (f q : ℕ) → fronts block f (q + 1) ≡ fronts block f q ++ take 172 (line block (12 * f + q))
-fronts-more block f q = flat_map-next (λ q. take 172 (line block (12 * f + q))) q
+pub prefixes-more : (block : List (List ℕ)) (f q : ℕ) → prefixes block f (q + 1) ≡ prefixes block f q ++ take 172 (line block (12 * f + q))
+prefixes-more block f q = flat_map-next (λ q. take 172 (line block (12 * f + q))) q
 
 -- the front of one row more is written
-pub fronts-next : (block : List (List ℕ)) (f q : ℕ) (old new row : List ℕ) → take (172 * q + 172) new ≡ take (172 * q) old ++ take 172 row
-    → take (172 * q) old ≡ fronts block f q → row ≡ line block (12 * f + q) → take (172 * (q + 1)) new ≡ fronts block f (q + 1)
-fronts-next block f q old new row put front is =
+pub prefixes-next : (block : List (List ℕ)) (f q : ℕ) (old new row : List ℕ) → take (172 * q + 172) new ≡ take (172 * q) old ++ take 172 row
+    → take (172 * q) old ≡ prefixes block f q → row ≡ line block (12 * f + q) → take (172 * (q + 1)) new ≡ prefixes block f (q + 1)
+prefixes-next block f q old new row put prefix is =
     let size : 172 * (q + 1) ≡ 172 * q + 172 = omega arith in
-    rw (size, fronts-more block f q) (put ∙ ap (λ (l : List ℕ). l ++ take 172 row) front ∙ ap (λ (r : List ℕ). fronts block f q ++ take 172 r) is)
+    rw (size, prefixes-more block f q) (put ∙ ap (λ (l : List ℕ). l ++ take 172 row) prefix ∙ ap (λ (r : List ℕ). prefixes block f q ++ take 172 r) is)
 
 -- a list of 2,064 bytes that are the fronts of all twelve rows is the frame
-pub fronts-all : (block : List (List ℕ)) (f : ℕ) (frame : List ℕ) → length frame ≡ 2064 → take (172 * 12) frame ≡ fronts block f 12 → frame ≡ frame_of block f
+pub prefixes-all : (block : List (List ℕ)) (f : ℕ) (frame : List ℕ) → length frame ≡ 2064 → take (172 * 12) frame ≡ prefixes block f 12 → frame ≡ frame_of block f
 unfolding frame_of
-fronts-all block f frame size front = sym (take_all 2064 frame (omega arith)) ∙ front
+prefixes-all block f frame size prefix = sym (take_all 2064 frame (omega arith)) ∙ prefix
 
 -- one row more has 182 bytes
 pub width-next : (block : List (List ℕ)) (f q : ℕ) (row : List ℕ) → row ≡ line block (12 * f + q) → length row ≡ 182
@@ -52,19 +52,19 @@ width-next block f q row is width before k below = elim (cases_eq k q) [
 ]
 
 -- the fronts of the same rows are the same
-fronts-same : (a b : List (List ℕ)) (f n : ℕ) → n ≤ 12 → ((q : ℕ) → q < 12 → line a (12 * f + q) ≡ line b (12 * f + q)) → fronts a f n ≡ fronts b f n
-fronts-same a b f zero within same = refl
-fronts-same a b f (suc n) within same =
+prefixes-same : (a b : List (List ℕ)) (f n : ℕ) → n ≤ 12 → ((q : ℕ) → q < 12 → line a (12 * f + q) ≡ line b (12 * f + q)) → prefixes a f n ≡ prefixes b f n
+prefixes-same a b f zero within same = refl
+prefixes-same a b f (suc n) within same =
     let more : suc n ≡ n + 1 = omega arith in
-    ap (fronts a f) more ∙ fronts-more a f n
-    ∙ ap (λ (l : List ℕ). l ++ take 172 (line a (12 * f + n))) (fronts-same a b f n (omega arith) same)
-    ∙ ap (λ (row : List ℕ). fronts b f n ++ take 172 row) (same n (omega arith))
-    ∙ sym (ap (fronts b f) more ∙ fronts-more b f n)
+    ap (prefixes a f) more ∙ prefixes-more a f n
+    ∙ ap (λ (l : List ℕ). l ++ take 172 (line a (12 * f + n))) (prefixes-same a b f n (omega arith) same)
+    ∙ ap (λ (row : List ℕ). prefixes b f n ++ take 172 row) (same n (omega arith))
+    ∙ sym (ap (prefixes b f) more ∙ prefixes-more b f n)
 
 -- frames of the same rows are the same
 pub frames-same : (a b : List (List ℕ)) (f : ℕ) → ((q : ℕ) → q < 12 → line a (12 * f + q) ≡ line b (12 * f + q)) → frame_of a f ≡ frame_of b f
 unfolding frame_of
-frames-same a b f same = fronts-same a b f 12 (omega arith) same
+frames-same a b f same = prefixes-same a b f 12 (omega arith) same
 
 -- the cause of frame f by that of its bytes
 pub fault_by : (block : List (List ℕ)) (entry : BlockPlan) (f : ℕ) (frame : List ℕ) (cause : Option FrameCause) → frame ≡ frame_of block f

@@ -30,17 +30,17 @@ words work rows are answered =
 pub held : (work : Work) (fixed : Bool) (columns : List ColumnAnswer) (rows : List AnswerRow) → columns ≡ column_answers work.columns
     → length columns ≡ 182 → rows ≡ answers_of_work work → (IsTrue fixed ↔ stage_of work ≡ Fixed) → HasAnswers (stage_of work)
     → HoldAnswers fixed columns rows
-held work fixed columns rows columns_are size are told answered =
+held work fixed columns rows columns_are size are said answered =
     let same = sym (words work rows are answered) in
     record {
       columns = size;
       rows = ap (λ (some_rows : List AnswerRow). length some_rows) are ∙ answers_size work;
-      fixed = fixed-told (rows_of work) (marks_of_work work) (rows-height work.received) (marks-height work.marks) (stage_of work) fixed told (block_of work)
+      fixed = fixed-told (rows_of work) (marks_of_work work) (rows-height work.received) (marks-height work.marks) (stage_of work) fixed said (block_of work)
           answered work.refused work.fixed
           ∙ ap (λ answers. is_none (two_pass_cause answers)) same;
       block = λ found.
           ap (λ (all : List ColumnAnswer). from_columns (words_of_columns all)) columns_are
-          ∙ fixed-found (rows_of work) (marks_of_work work) (rows-height work.received) (marks-height work.marks) (stage_of work) fixed told (block_of work)
+          ∙ fixed-found (rows_of work) (marks_of_work work) (rows-height work.received) (marks-height work.marks) (stage_of work) fixed said (block_of work)
           work.fixed found
           ∙ ap block_found same;
     }

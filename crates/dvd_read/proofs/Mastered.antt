@@ -30,7 +30,7 @@ use Rattle.dvd_capture.proofs.Bound.{within_agrees}
 use Rattle.dvd_decoding.specs.Made.{IsMadeOf, IsReceived}
 use Rattle.dvd_decoding.specs.Reading.{block_cause, block_sectors, IsReadAs}
 use Rattle.dvd_read.proofs.BlockRead.{read-determined}
-use Rattle.dvd_read.proofs.FrameFaults.{fault-none, fronts, fronts-more, mains-all}
+use Rattle.dvd_read.proofs.FrameFaults.{fault-none, prefixes, prefixes-more, mains-all}
 
 -- b29 plays no part in the place that an ID names
 place-of_dim : (w : ℕ) → w < 2 ^ 29 → bit_and (1 * 2 ^ 29 + w) 0x0DFFFFFF ≡ bit_and w 0x0DFFFFFF
@@ -74,37 +74,37 @@ unfolding frame_cause
 cause-by_place frame want other rule same = rw same refl
 
 -- a row begins with its part of the frame
-row_front : (block : List (List ℕ)) (frame : List ℕ) (f q : ℕ) → IsProduct block → HoldsFrame f frame block → f < 16 → q < 12 → length frame ≡ 2064
+row_prefix : (block : List (List ℕ)) (frame : List ℕ) (f q : ℕ) → IsProduct block → HoldsFrame f frame block → f < 16 → q < 12 → length frame ≡ 2064
     → take 172 (line block (12 * f + q)) ≡ take 172 (drop (172 * q) frame)
 unfolding HoldsFrame
-row_front block frame f q product holds f_below q_below size =
+row_prefix block frame f q product holds f_below q_below size =
     let inside : 12 * f + q < length block = omega (arith, product.height) in
     let width : length (line block (12 * f + q)) ≡ 182 = (product.rows (12 * f + q) [] inside).size in
     let rest : length (drop (172 * q) frame) ≡ 2064 - 172 * q = length-drop (172 * q) frame ∙ ap (λ (n : ℕ). n - 172 * q) size in
-    let front : length (take 172 (line block (12 * f + q))) ≡ 172 = length-take-le 172 (line block (12 * f + q)) (omega arith) in
+    let prefix : length (take 172 (line block (12 * f + q))) ≡ 172 = length-take-le 172 (line block (12 * f + q)) (omega arith) in
     let part : length (take 172 (drop (172 * q) frame)) ≡ 172 = length-take-le 172 (drop (172 * q) frame) (omega arith) in
-    same_number_lists (take 172 (line block (12 * f + q))) (take 172 (drop (172 * q) frame)) (front ∙ sym part)
+    same_number_lists (take 172 (line block (12 * f + q))) (take 172 (drop (172 * q) frame)) (prefix ∙ sym part)
     (λ p within.
     let below : p < 172 = omega arith in
     get_or-take 172 (line block (12 * f + q)) p 0 below ∙ holds q p q_below below
     ∙ sym (get_or-take 172 (drop (172 * q) frame) p 0 below ∙ get_or-drop (172 * q) frame p 0))
 
 -- the fronts of the first rows of frame f are the first bytes of the frame that it was made of
-fronts-are : (block : List (List ℕ)) (frame : List ℕ) (f q : ℕ) → IsProduct block → HoldsFrame f frame block → f < 16 → q ≤ 12 → length frame ≡ 2064
-    → fronts block f q ≡ take (172 * q) frame
-fronts-are block frame f zero product holds f_below most size = refl
-fronts-are block frame f (suc q) product holds f_below most size =
+prefixes-are : (block : List (List ℕ)) (frame : List ℕ) (f q : ℕ) → IsProduct block → HoldsFrame f frame block → f < 16 → q ≤ 12 → length frame ≡ 2064
+    → prefixes block f q ≡ take (172 * q) frame
+prefixes-are block frame f zero product holds f_below most size = refl
+prefixes-are block frame f (suc q) product holds f_below most size =
     let more : 172 * suc q ≡ 172 * q + 172 = omega arith in
     let next : suc q ≡ q + 1 = omega arith in
     rw (more, take-add)
-    (ap (fronts block f) next ∙ fronts-more block f q
-    ∙ ap (λ l. l ++ take 172 (line block (12 * f + q))) (fronts-are block frame f q product holds f_below (omega arith) size)
-    ∙ ap (λ l. take (172 * q) frame ++ l) (row_front block frame f q product holds f_below (omega arith) size))
+    (ap (prefixes block f) next ∙ prefixes-more block f q
+    ∙ ap (λ l. l ++ take 172 (line block (12 * f + q))) (prefixes-are block frame f q product holds f_below (omega arith) size)
+    ∙ ap (λ l. take (172 * q) frame ++ l) (row_prefix block frame f q product holds f_below (omega arith) size))
 
 -- frame f of a block is the frame that it was made of
 pub frame_of-made : (block : List (List ℕ)) (frame : List ℕ) (f : ℕ) → IsProduct block → HoldsFrame f frame block → f < 16 → length frame ≡ 2064 → frame_of block f ≡ frame
 unfolding frame_of
-frame_of-made block frame f product holds below size = fronts-are block frame f 12 product holds below (omega arith) size ∙ take_all (172 * 12) frame (omega arith)
+frame_of-made block frame f product holds below size = prefixes-are block frame f 12 product holds below (omega arith) size ∙ take_all (172 * 12) frame (omega arith)
 
 -- a data frame has 2,064 bytes
 length-data_frame : (word : ℕ) (cpr main : List ℕ) (rule : Rule) → length cpr ≡ 6 → length main ≡ 2048 → length (data_frame word cpr rule main) ≡ 2064

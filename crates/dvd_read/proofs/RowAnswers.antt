@@ -29,8 +29,8 @@ AnswerBy row marks bytes fix = MatchOption fix (near_of 182 10 row marks ≡ Non
 pub row_fixed : (row word : List ℕ) (marks : List Bool) (fix : Fix) (answer : AnswerRow) → IsNear 182 10 row marks word
     → fix.errors ≡ error_count row word marks → fix.erased ≡ marked marks → answer.bytes ≡ word → answer.fix ≡ Some fix → IsAnswer row marks answer
 row_fixed row word marks fix answer near errors erased bytes_are fix_is =
-    let told : AnswerBy row marks word (Some fix) = (near_of-some 182 10 row word marks (omega arith) near, errors, erased) in
-    subst (AnswerBy row marks answer.bytes) (sym fix_is) (subst (λ bytes. AnswerBy row marks bytes (Some fix)) (sym bytes_are) told)
+    let said : AnswerBy row marks word (Some fix) = (near_of-some 182 10 row word marks (omega arith) near, errors, erased) in
+    subst (AnswerBy row marks answer.bytes) (sym fix_is) (subst (λ bytes. AnswerBy row marks bytes (Some fix)) (sym bytes_are) said)
 
 -- the word of an answer is what the first pass answers
 word_by : (row bytes : List ℕ) (marks : List Bool) (fix : Option Fix) → AnswerBy row marks bytes fix → answer_by fix bytes ≡ near_of 182 10 row marks

@@ -31,7 +31,7 @@ use Rattle.dvd_decoding.specs.Salvage.{block_out, candidate, rescued, saved_in}
 use Rattle.dvd_read.specs.Inner.Saved.{answered_block, lacks_row, main_if_right, sectors_saved}
 use Rattle.dvd_read.proofs.BlockRead.{both_of_none}
 use Rattle.dvd_read.proofs.Codewords.{near_of-codeword}
-use Rattle.dvd_read.proofs.FrameFaults.{frames-same, fronts, fronts-more, mains-all}
+use Rattle.dvd_read.proofs.FrameFaults.{frames-same, prefixes, prefixes-more, mains-all}
 use Rattle.dvd_read.proofs.Mastered.{frame_fine}
 use Rattle.dvd_read.proofs.Outcomes.{agrees-no_cause, found-agrees, no_cause-agrees}
 use Rattle.dvd_read.proofs.RowAnswers.{get_or-answers_of}
@@ -49,11 +49,11 @@ refused-caused received marks size marks_size none = by_cause (two_pass_cause (a
   by_cause (Some cause) is = refl
 
 module _ (received : List (List ℕ)) (marks : List (List Bool)) (size : length received ≡ 208) (marks_size : length marks ≡ 208) (stage : Stage) (fixed : Bool)
-    (told : IsTrue fixed ↔ stage ≡ Fixed) where
+    (said : IsTrue fixed ↔ stage ≡ Fixed) where
   -- the stage says whether there is a cause
   pub fixed-told : (block : List (List ℕ)) → HasAnswers stage → (stage ≡ Refused → HasNoTwoPass received marks) → (stage ≡ Fixed → IsTwoPass received marks block)
       → fixed ≡ is_none (two_pass_cause (answers_of received marks))
-  fixed-told block = by_stage stage fixed told where
+  fixed-told block = by_stage stage fixed said where
     -- by the stage, which is Refused or Fixed, and by the flag that says it
     by_stage : (at : Stage) (flag : Bool) → (IsTrue flag ↔ at ≡ Fixed) → HasAnswers at → (at ≡ Refused → HasNoTwoPass received marks)
         → (at ≡ Fixed → IsTwoPass received marks block) → flag ≡ is_none (two_pass_cause (answers_of received marks))
@@ -68,7 +68,7 @@ module _ (received : List (List ℕ)) (marks : List (List Bool)) (size : length 
   -- and the block that is fixed is the one found
   pub fixed-found : (block : List (List ℕ)) → (stage ≡ Fixed → IsTwoPass received marks block) → fixed ≡ true → block ≡ block_found (answers_of received marks)
   fixed-found block agrees found =
-      sym (found-agrees (answers_of received marks) block (length-answers_of received marks 208 size marks_size) (agrees (told.0 found)))
+      sym (found-agrees (answers_of received marks) block (length-answers_of received marks 208 size marks_size) (agrees (said.0 found)))
 
 -- A BLOCK WITHOUT A CAUSE
 -- where no value is first, the first number gives none, and of the others none is first
@@ -220,21 +220,21 @@ good_rows-saved entry dim cpr main frames block received marks cause f numbers m
 -- SIZES
 
 -- the fronts of n rows of 182 places are 172 n bytes
-length-fronts : (block : List (List ℕ)) (f n : ℕ) → ((q : ℕ) → q < n → length (line block (12 * f + q)) ≡ 182) → length (fronts block f n) ≡ 172 * n
-length-fronts block f zero wide = refl
-length-fronts block f (suc n) wide =
+length-prefixes : (block : List (List ℕ)) (f n : ℕ) → ((q : ℕ) → q < n → length (line block (12 * f + q)) ≡ 182) → length (prefixes block f n) ≡ 172 * n
+length-prefixes block f zero wide = refl
+length-prefixes block f (suc n) wide =
     let next : suc n ≡ n + 1 = omega arith in
     let row = line block (12 * f + n) in
     let width = wide n (omega arith) in
     let part : length (take 172 row) ≡ 172 = length-take-le 172 row (omega arith) in
-    let rest = length-fronts block f n (λ q below. wide q (omega arith)) in
-    ap (λ m. length (fronts block f m)) next ∙ ap length (fronts-more block f n)
-    ∙ length-append (fronts block f n) (take 172 row) ∙ (omega (arith, part, rest))
+    let rest = length-prefixes block f n (λ q below. wide q (omega arith)) in
+    ap (λ m. length (prefixes block f m)) next ∙ ap length (prefixes-more block f n)
+    ∙ length-append (prefixes block f n) (take 172 row) ∙ (omega (arith, part, rest))
 
 -- a frame of twelve rows of 182 places has 2,064 bytes
 length-frame : (block : List (List ℕ)) (f : ℕ) → ((q : ℕ) → q < 12 → length (line block (12 * f + q)) ≡ 182) → length (frame_of block f) ≡ 2064
 unfolding frame_of
-length-frame block f wide = length-fronts block f 12 wide
+length-frame block f wide = length-prefixes block f 12 wide
 
 -- the Main Data of a frame are 2,048 bytes
 length-main : (frame : List ℕ) (entry : BlockPlan) (f : ℕ) → length frame ≡ 2064 → length (main_in frame (rule_for entry.content f)) ≡ 2048

@@ -53,8 +53,8 @@ own-row row answer codeword bytes_are fix_is =
 -- a fix that was found says what was corrected
 pub fix-told : (row word : List ℕ) (marks : List Bool) (found : Option Fix) (fix : Fix) → found ≡ Some fix
     → MatchOption found (near_of 182 10 row marks ≡ None) (IsFix row marks word) → IsFix row marks word fix
-fix-told row word marks found fix is told =
-    subst (λ (f : Option Fix). MatchOption f (near_of 182 10 row marks ≡ None) (IsFix row marks word)) is told
+fix-told row word marks found fix is said =
+    subst (λ (f : Option Fix). MatchOption f (near_of 182 10 row marks ≡ None) (IsFix row marks word)) is said
 
 -- a first place is an error exactly where it differs
 counted-step : (x y rest more : ℕ) → rest ≡ more → (if y == x then 0 else 1) + rest ≡ (if x == y then 0 else 1) + more
@@ -74,8 +74,8 @@ errors-differ (x ∷ row) (y ∷ word) (false ∷ marks) within clear =
 -- a row of which no place is marked differs from its answer where an error was corrected
 pub errors-counted : (row : List ℕ) (marks : List Bool) (answer : AnswerRow) (fix : Fix) → length row ≡ length marks
     → answer.fix ≡ Some fix → fix.erased ≡ 0 → IsAnswer row marks answer → fix.errors ≡ distance row answer.bytes
-errors-counted row marks answer fix size is erased told =
-    let fixed : IsFix row marks answer.bytes fix = fix-told row answer.bytes marks answer.fix fix is told in
+errors-counted row marks answer fix size is erased said =
+    let fixed : IsFix row marks answer.bytes fix = fix-told row answer.bytes marks answer.fix fix is said in
     fixed.1 ∙ errors-differ row answer.bytes marks (omega (arith, size)) (sym fixed.2 ∙ erased)
 
 -- ---- a column of which nothing was corrected that isn't marked
@@ -201,5 +201,5 @@ row-counted work i row default block count below stage is counted =
     let answers : List AnswerRow = answers_of_work work in
     let marks : List Bool = marks_line (marks_of_work work) i in
     let width : length marks ≡ 182 = marks-width work.marks i below in
-    let told : IsAnswer row marks (get_or answers i default) = subst (λ (r : List ℕ). IsAnswer r marks (get_or answers i default)) (sym is) (work.answered stage i default below) in
-    counted marks width told ∙ ap (λ (r : List ℕ). distance r (line block i)) is
+    let said : IsAnswer row marks (get_or answers i default) = subst (λ (r : List ℕ). IsAnswer r marks (get_or answers i default)) (sym is) (work.answered stage i default below) in
+    counted marks width said ∙ ap (λ (r : List ℕ). distance r (line block i)) is

@@ -211,11 +211,11 @@ fn put_kept_row(
 {
     let answer = &answers[i];
     if answer.fix.is_some() {
-        put_front(frame, at, &answer.bytes);
+        put_data(frame, at, &answer.bytes);
     } else {
         let mut row = [0; 182];
         read_row(columns, i, &mut row);
-        put_front(frame, at, &row);
+        put_data(frame, at, &row);
     }
 }
 
@@ -228,7 +228,7 @@ fn copy_received(rows: &[[u8; 182]], f: usize, frame: &mut [u8; 2064])
     ensures widths { (q : ℕ) → q < 12 → length (line rows.now (12 * f + q)) ≡ 182 }
 {
     for q in 0..12usize {
-        put_front(frame, 172 * q, &rows[12 * f + q]);
+        put_data(frame, 172 * q, &rows[12 * f + q]);
     }
 }
 
@@ -241,16 +241,16 @@ pub(crate) fn copy_frame(columns: &[ColumnAnswer], f: usize, frame: &mut [u8; 20
     let mut row = [0; 182];
     for q in 0..12usize {
         read_row(columns, 12 * f + q, &mut row);
-        put_front(frame, 172 * q, &row);
+        put_data(frame, 172 * q, &row);
     }
 }
 
 /// Writes the first 172 bytes of a row after what comes before them: the last ten are inner parity. A frame is written
 /// from its first row on, since only the bytes before `at` are ensured to stay. `width` is for callers' proofs, which
 /// don't know the length of a row in a list.
-pub(crate) fn put_front(frame: &mut [u8; 2064], at: usize, row: &[u8; 182])
+pub(crate) fn put_data(frame: &mut [u8; 2064], at: usize, row: &[u8; 182])
     requires { at + 172 ≤ 2064 }
-    ensures front { take (at + 172) frame.new ≡ take at frame.old ++ take 172 row.now }
+    ensures prefix { take (at + 172) frame.new ≡ take at frame.old ++ take 172 row.now }
     ensures width { length row.now ≡ 182 }
 {
     frame[at..at + 172].copy_from_slice(&row[..172]);

@@ -13,7 +13,7 @@ ghost use Rattle.dvd_decoding.specs.Frames.{frame_of};
 ghost use Rattle.dvd_decoding.specs.Salvage.{block_out, candidate, rescued, saved_in};
 ghost use Rattle.dvd_read.specs.Inner.Saved.{answered_block, frames_saved, lacks_row, sectors_saved};
 
-use crate::frames::{copy_frame, put_front};
+use crate::frames::{copy_frame, put_data};
 use dvd_capture::parts::{AnswerRow, Answers, ColumnAnswer, Columns, Sectors};
 use dvd_capture::{Stage, Work};
 use dvd_frame::{Scrambler, read_frame_into};
@@ -170,7 +170,7 @@ fn copy_answered(answers: &[AnswerRow], f: usize, frame: &mut [u8; 2064]) -> boo
         if row.fix.is_none() {
             return false;
         }
-        put_front(frame, 172 * q, &row.bytes);
+        put_data(frame, 172 * q, &row.bytes);
     }
     true
 }

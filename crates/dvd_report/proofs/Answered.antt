@@ -6,7 +6,7 @@ use Rattle.dvd_decoding.specs.Reading.{block_cause, IsReadAs}
 use Rattle.dvd_decoding.specs.declared.cause.Cause.{Cause}
 use Rattle.dvd_read.specs.declared.fixed.Fixed.{Fixed}
 use Rattle.dvd_read.proofs.BlockRead.{read-determined}
-use Rattle.dvd_report.specs.Survey.{StandsFor, surveyed, surveyed_with, SurveyState}
+use Rattle.dvd_report.specs.Survey.{Represents, surveyed, surveyed_with, SurveyState}
 use Rattle.dvd_report.specs.declared.counts.Surveyed.{Surveyed}
 use Rattle.dvd_report.specs.declared.counts.Totals.{Totals}
 use Rattle.dvd_report.proofs.Sums.{totals-blocks}
@@ -22,5 +22,5 @@ surveyed-read rows marks entry sectors (Ok fixed) size marks_size read refused =
 surveyed-read rows marks entry sectors (Err cause) size marks_size read refused = ap (surveyed_with rows marks) (sym refused)
 
 -- how many blocks the survey of a list has counted
-pub blocks-counted : (survey : SurveyState) (blocks : List Surveyed) → StandsFor survey blocks → survey.totals.blocks ≡ length blocks
-blocks-counted survey blocks stands = ap (λ (totals : Totals). totals.blocks) stands.totals ∙ totals-blocks blocks
+pub blocks-counted : (survey : SurveyState) (blocks : List Surveyed) → Represents survey blocks → survey.totals.blocks ≡ length blocks
+blocks-counted survey blocks is_there = ap (λ (totals : Totals). totals.blocks) is_there.totals ∙ totals-blocks blocks

@@ -77,7 +77,7 @@ pub record SurveyState : Type 0 where
   pub last : Option Surveyed
 
 -- a survey is that of these blocks
-pub record StandsFor (survey : SurveyState) (blocks : List Surveyed) : Type 0 where
+pub record Represents (survey : SurveyState) (blocks : List Surveyed) : Type 0 where
   pub totals : survey.totals ≡ totals_of blocks
   pub window : survey.window ≡ map pi_of (last_eight blocks)
   pub last : survey.last ≡ slice_get blocks (length blocks - 1)

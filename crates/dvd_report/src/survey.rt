@@ -10,7 +10,7 @@ ghost use Rattle.dvd_layout.specs.Place.{HasNumbers};
 ghost use Rattle.dvd_ports.specs.Causes.{HasCause};
 ghost use Rattle.dvd_ports.specs.Whole.{AppendsPrefix};
 ghost use Rattle.dvd_report.specs.Inner.Sound.{IsBounded};
-ghost use Rattle.dvd_report.specs.Survey.{StandsFor, sum8, survey_line, surveyed_with, totals_line, totals_of};
+ghost use Rattle.dvd_report.specs.Survey.{Represents, sum8, survey_line, surveyed_with, totals_line, totals_of};
 
 use crate::counts::{Surveyed, Totals};
 use crate::errors::survey_block;
@@ -33,7 +33,7 @@ const MANY: u32 = 280;
 
 /// A survey: totals over all blocks, the PI error rows of the last eight, and the last block.
 /// It keeps only these of the list of its blocks; a contract sees it as the survey of that list. So a disk of any size
-/// is surveyed in the same memory. `StandsFor` relates the two; a clause with it holds for each list that this is of.
+/// is surveyed in the same memory. `Represents` relates the two; a clause with it holds for each list that this is of.
 #[derive(Drop)]
 pub struct Survey {
     totals: Totals,
@@ -55,7 +55,7 @@ impl Model for Survey {
 impl Survey {
     /// The survey of no block. `NoMemory` may come at any time, and nothing is allocated then.
     pub fn new(alloc: Global) -> Result<Survey, NoMemory>
-        ensures { IfOk result (λ survey. StandsFor survey []) }
+        ensures { IfOk result (λ survey. Represents survey []) }
     {
         let window = HeapCircularBuffer::with_capacity(alloc, WINDOW).map_err(|_| NoMemory)?;
         Ok(Survey {
@@ -72,8 +72,8 @@ impl Survey {
         requires answers { HasAnswers (stage_of work.now) }
         requires room { self.old.totals.blocks < 2 ^ 32 }
         ensures counted { self.new.totals.blocks ≡ self.old.totals.blocks + 1 }
-        ensures added { (blocks : List Surveyed) → StandsFor self.old blocks
-            → StandsFor self.new (blocks ++ surveyed_with (rows_of work.now) (marks_of_work work.now) (result_err answer.now) ∷ []) }
+        ensures added { (blocks : List Surveyed) → Represents self.old blocks
+            → Represents self.new (blocks ++ surveyed_with (rows_of work.now) (marks_of_work work.now) (result_err answer.now) ∷ []) }
     {
         let block = survey_block(work, answer);
         // First into the window, since the sum is with the new block. A full window gives its oldest number back, which
@@ -97,9 +97,9 @@ impl Survey {
     pub fn write_line<K: Sink>(&self, plan: &BlockPlan, out: &mut K) -> Result<(), WriteFault>
         requires some { 0 < self.now.totals.blocks }
         requires numbers { HasNumbers plan.now }
-        ensures written { (blocks : List Surveyed) → StandsFor self.now blocks
+        ensures written { (blocks : List Surveyed) → Represents self.now blocks
             → OnOk result (Appends (K.seen out.old).bytes (K.seen out.new).bytes (survey_line (length blocks - 1) plan.now blocks)) }
-        ensures begun { (blocks : List Surveyed) → StandsFor self.now blocks
+        ensures begun { (blocks : List Surveyed) → Represents self.now blocks
             → OnErr result (AppendsPrefix (K.seen out.old).bytes (K.seen out.new).bytes (survey_line (length blocks - 1) plan.now blocks)) }
         ensures cause { HasCause (K.seen out.old) (K.seen out.new) result }
     {
@@ -109,9 +109,9 @@ impl Survey {
     /// Writes the line of totals: `blocks B pi P failed F damaged D peak S at K over O` and a line feed. After a fault
     /// a prefix of the line was written.
     pub fn write_totals<K: Sink>(&self, out: &mut K) -> Result<(), WriteFault>
-        ensures written { (blocks : List Surveyed) → StandsFor self.now blocks
+        ensures written { (blocks : List Surveyed) → Represents self.now blocks
             → OnOk result (Appends (K.seen out.old).bytes (K.seen out.new).bytes (totals_line blocks)) }
-        ensures begun { (blocks : List Surveyed) → StandsFor self.now blocks
+        ensures begun { (blocks : List Surveyed) → Represents self.now blocks
             → OnErr result (AppendsPrefix (K.seen out.old).bytes (K.seen out.new).bytes (totals_line blocks)) }
         ensures cause { HasCause (K.seen out.old) (K.seen out.new) result }
     {
@@ -121,7 +121,7 @@ impl Survey {
     // The line of the last block, whole, so that it goes out as one piece. Blocks are counted from 0.
     fn last_line(&self, plan: &BlockPlan) -> Line
         requires { 0 < self.now.totals.blocks }
-        ensures { (blocks : List Surveyed) → StandsFor self.now blocks → result ≡ survey_line (length blocks - 1) plan.now blocks }
+        ensures { (blocks : List Surveyed) → Represents self.now blocks → result ≡ survey_line (length blocks - 1) plan.now blocks }
     {
         match self.last {
             Some(block) => line_of_block(

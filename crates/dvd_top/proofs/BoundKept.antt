@@ -39,7 +39,7 @@ alone : (Performs : Layout → Zones → Form → ℕ → List ℕ → List Step
     → (steps ≡ Write (image_part layout entry image) ∷ []) × (kind ≡ Good)
 alone Performs repairs layout zones form bytes cpr image k entry b steps kind does =
     let m = b.mastered in
-    repairs layout zones form cpr k entry (image_part layout entry image) (block_bytes form bytes k) m.block steps kind m.stands m.is_image m.cpr_size
+    repairs layout zones form cpr k entry (image_part layout entry image) (block_bytes form bytes k) m.block steps kind m.is_there m.is_image m.cpr_size
     (length-part layout entry.content image m.image_size) m.is_block (block-whole form bytes (k + 1) m.whole k (omega arith)) b.within does
 
 -- Units that are the captured blocks of a plan, and write the image bytes that each holds.
@@ -53,7 +53,7 @@ module _ (layout : Layout) (zones : Zones) (form : Form) (May : ℕ → List ℕ
         → take (image_bytes layout entry) (drop (2048 * image_from entry.content) a.out) ≡ image_part layout entry image
     at_place a runs none =
         let m = b.mastered in
-        let t = has_unit layout zones form May wide bytes a runs none k entry m.stands m.is_image m.whole in
+        let t = has_unit layout zones form May wide bytes a runs none k entry m.is_there m.is_image m.whole in
         let back = alone t.steps t.kind t.does in
         part_there (2048 * image_from entry.content) (image_bytes layout entry) t.before (image_part layout entry image) a.out t.size
         (length-part layout entry.content image m.image_size) (subst (λ s. IsPrefixOf (t.before ++ written s) a.out) back.0 t.out)

@@ -13,12 +13,12 @@ use Rattle.dvd_layout.proofs.SameLengths.{same_lengths-same}
 use Rattle.dvd_loop.specs.Laws.{IsFaultless}
 use Rattle.dvd_loop.specs.Machine.{Performs, EndsAfterLast, Continues, ContinuesAfter, IsOutcome, IsUnit, Outcome, Step, Units, bad_of, taking}
 use Rattle.dvd_loop.specs.Machine.Step.{Write}
-use Rattle.dvd_loop.specs.UnitCommand.{told, written}
+use Rattle.dvd_loop.specs.UnitCommand.{reported, written}
 use Rattle.dvd_loop.specs.declared.ends.AfterLast.TheVariants.{EndOfInput}
 use Rattle.dvd_loop.specs.declared.ends.LoopEnd.TheVariants.{Done, Long, ReadFault, Short}
 use Rattle.dvd_loop.specs.declared.ends.UnitKind.TheVariants.{Good, Bad, Last}
 use Rattle.dvd_loop.proofs.Faultless.{all_done}
-use Rattle.dvd_loop.proofs.Fronts.{same_front, same_left as left_same}
+use Rattle.dvd_loop.proofs.Prefixes.{same_prefix, same_left as left_same}
 use Rattle.dvd_loop.proofs.Reached.{goes_on}
 use Rattle.dvd_loop.proofs.Sizes.{TakesOne, goes_one}
 use Rattle.dvd_loop.proofs.StepLemmas.{does_all, onto, taken_then}
@@ -94,11 +94,11 @@ module _ (layout : Layout) (zones : Zones) (form : Form) (has : HasSize form) (o
       (o : TakesOne reading (λ k. block_size form) (λ k own. sized_part form has own) n rb bad left a) where
     -- both took the same bytes of the input
     same_own : o.own ≡ t.own
-    same_own = same_front o.own t.own o.left t.left (sym o.front ∙ t.front) (o.size_is ∙ sym t.size_is)
+    same_own = same_prefix o.own t.own o.left t.left (sym o.prefix ∙ t.prefix) (o.size_is ∙ sym t.size_is)
 
     -- and left the same
     same_left : o.left ≡ t.left
-    same_left = left_same o.own t.own o.left t.left (sym o.front ∙ t.front) same_own
+    same_left = left_same o.own t.own o.left t.left (sym o.prefix ∙ t.prefix) same_own
 
     -- the listed unit that was written
     unit : List ℕ
@@ -119,7 +119,7 @@ module _ (layout : Layout) (zones : Zones) (form : Form) (has : HasSize form) (o
         let marks : captured_marks form o.own ≡ captured_marks Listed t.unit.does.unit = ap (captured_marks form) same_own ∙ sym is.marks_are in
         let entry = o.unit.does.entry in record {
           entry = entry;
-          stands = subst (λ k. slice_get (plan_of layout zones) k ≡ Some entry) same o.unit.does.stands;
+          is_there = subst (λ k. slice_get (plan_of layout zones) k ≡ Some entry) same o.unit.does.is_there;
           does = subst (λ k. ForImage (IsImageDone layout k) entry (captured_rows Listed t.unit.does.unit) (captured_marks Listed t.unit.does.unit) o.steps o.kind) same
               (subst (λ m. ForImage (IsImageDone layout (length rb)) entry (captured_rows Listed t.unit.does.unit) m o.steps o.kind) marks
               (subst (λ r. ForImage (IsImageDone layout (length rb)) entry r (captured_marks form o.own) o.steps o.kind) rows o.unit.does.does));
@@ -131,7 +131,7 @@ module _ (layout : Layout) (zones : Zones) (form : Form) (has : HasSize form) (o
     one_more r =
         let is = t.unit.does.is_unit in
         let Next = Continues listing n (lb ++ unit ∷ []) (bad + bad_of o.kind) t.after.out in
-        let after_last = onto [] (written o.steps) (told o.steps) r.again in record {
+        let after_last = onto [] (written o.steps) (reported o.steps) r.again in record {
           again = taking unit after_last;
           goes = subst (λ l. Continues listing (suc n) lb bad l (taking unit after_last)) (sym out_is)
               (inr (taken_then listing lb _ (unit ++ t.after.out) unit t.after.out o.steps o.kind _ after_last refl
@@ -139,7 +139,7 @@ module _ (layout : Layout) (zones : Zones) (form : Form) (has : HasSize form) (o
               (does_all o.steps (ContinuesAfter o.kind Next) r.again
               (goes_on o.kind Next r.again (λ last. recover_last rb o.own o.steps (subst (IsUnit reading rb o.own o.steps) last o.unit)) r.goes)) refl));
           out = ap (λ l. written o.steps ++ l) r.out ∙ sym (ap (λ (x : Outcome). x.out) o.is);
-          lines = ap (λ l. told o.steps ++ l) r.lines ∙ sym (ap (λ (x : Outcome). x.lines) o.is);
+          lines = ap (λ l. reported o.steps ++ l) r.lines ∙ sym (ap (λ (x : Outcome). x.lines) o.is);
           ends = r.ends ∙ sym (ap (λ (x : Outcome). x.end) o.is);
         }
 
@@ -165,7 +165,7 @@ module _ (layout : Layout) (zones : Zones) (form : Form) (has : HasSize form) (o
       elim (goes_one converting (λ k. block_size form) (λ k own. sized_part form has own) n cb (convert_last cb) others left c conv (subst IsFaultless (sym done) tt)) [
         | inl short ↦ absurd (let no : Short (length cb) (length left) ≡ Done = sym (ap (λ (x : Outcome). x.end) short.is) ∙ done in cc)
         | inr t ↦ elim (goes_one reading (λ k. block_size form) (λ k own. sized_part form has own) n rb (recover_last rb) bad left a rec none) [
-          | inl short ↦ absurd (let all = ap length t.front in let sum = length-append t.own t.left in let fewer = short.fewer in omega (arith, all, sum, fewer, t.size_is))
+          | inl short ↦ absurd (let all = ap length t.prefix in let sum = length-append t.own t.left in let fewer = short.fewer in omega (arith, all, sum, fewer, t.size_is))
           | inr o ↦
               one_more n cb rb lb bad others left c a same t o
               (goes_again n (cb ++ t.own ∷ []) (rb ++ o.own ∷ []) (lb ++ t.unit.does.unit ∷ []) (bad + bad_of o.kind) (others + bad_of t.kind) t.left t.after o.after
@@ -187,7 +187,7 @@ converted_read settings words bytes c a is_convert is_recover listed has valid c
     same_lengths-same other layout (so.shape ∙ sym is.shape) (so.sectors0 ∙ sym is.sectors0) (so.sectors1 ∙ sym is.sectors1) (so.initial ∙ sym is.initial) (so.tail ∙ sym is.tail) in
     let count = length (plan_of layout settings.zones) in
     let opened = all_done (Write opening ∷ []) (Continues (convert_units layout settings.zones form opening) count [] 0 bytes) c runs (subst IsFaultless (sym done) tt) in
-    let front : c.out ≡ opening ++ opened.after.out = ap (λ (x : Outcome). x.out) opened.is ∙ ap (λ l. l ++ opened.after.out) (append-nil opening) in
+    let prefix : c.out ≡ opening ++ opened.after.out = ap (λ (x : Outcome). x.out) opened.is ∙ ap (λ l. l ++ opened.after.out) (append-nil opening) in
     let r = goes_again layout settings.zones form has opening count [] [] [] 0 0 bytes opened.after a refl opened.holds (sym (ap (λ (x : Outcome). x.end) opened.is) ∙ done)
     (subst (λ l. IsOutcome (recover_units l settings.zones form) bytes a) same read) none in
     let sectors : settings.sectors ≡ header.header.sectors0 = ap (λ (s : Settings). s.sectors) header.states.all in
@@ -222,7 +222,7 @@ converted_read settings words bytes c a is_convert is_recover listed has valid c
     let run : IsOpened GoesOver words c.out (taking opening r.again) = record {
       own = opening;
       left = opened.after.out;
-      front = front;
+      prefix = prefix;
       after = r.again;
       comes = inr (header-size settings settings opening header, inr (stated, states, kept, goes));
       takes = refl;

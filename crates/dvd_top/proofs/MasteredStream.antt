@@ -21,7 +21,7 @@ use Rattle.dvd_layout.specs.declared.layout.Zones.{Zones}
 use Rattle.dvd_layout.proofs.InOrder.{plan_of-in_order}
 use Rattle.dvd_loop.specs.Laws.{IsFaultless}
 use Rattle.dvd_loop.specs.Machine.{IsOutcome, Outcome, Step}
-use Rattle.dvd_loop.specs.UnitCommand.{told, written}
+use Rattle.dvd_loop.specs.UnitCommand.{reported, written}
 use Rattle.dvd_loop.specs.declared.ends.LoopEnd.{LoopEnd}
 use Rattle.dvd_loop.specs.declared.ends.LoopEnd.TheVariants.{Done}
 use Rattle.dvd_loop.specs.declared.ends.UnitKind.{UnitKind}
@@ -36,7 +36,7 @@ use Rattle.dvd_top.specs.Promises.{IsStreamOf}
 use Rattle.dvd_commands.proofs.ForRuns.{size_is}
 use Rattle.dvd_top.proofs.OnlyThese.{only_these, runs_only}
 use Rattle.dvd_commands.proofs.BlockUnits.{length-part}
-use Rattle.dvd_commands.proofs.Pieces.{length-pieces, piece-at, pieces-front, start-same}
+use Rattle.dvd_commands.proofs.Pieces.{length-pieces, piece-at, pieces-prefix, start-same}
 use Rattle.dvd_commands.proofs.PlanBytes.{start-all, start-blocks}
 use Rattle.dvd_commands.proofs.PlanEntries.{some_entry}
 use Rattle.dvd_commands.proofs.EntryBlocks.{done_at}
@@ -60,7 +60,7 @@ recording-within block is =
 record IsBack (image : List ℕ) (steps : List Step) (kind : UnitKind) : Type 0 where
   good : kind ≡ Good
   writes : written steps ≡ image
-  silent : told steps ≡ []
+  silent : reported steps ≡ []
 
 -- one without image sectors gives none
 none_back : (layout : Layout) (content : Content) (image : List ℕ) (steps : List Step) (kind : UnitKind) → image_sectors layout content ≡ 0
@@ -69,7 +69,7 @@ none_back : (layout : Layout) (content : Content) (image : List ℕ) (steps : Li
 none_back layout content image steps kind none size (nothing, good) = record {
   good = good;
   writes = ap written nothing ∙ sym (nil_from_length image (omega arith));
-  silent = ap told nothing;
+  silent = ap reported nothing;
 }
 
 -- a block is passed over, or holds image sectors
@@ -86,22 +86,22 @@ block_back : (layout : Layout) (zones : Zones) (cpr : List ℕ) (k : ℕ) (entry
     → slice_get (plan_of layout zones) k ≡ Some entry → length cpr ≡ 6 → length image ≡ image_bytes layout entry
     → IsBlockOf (frames_of layout entry cpr (filled_block image)) block
     → IsRecovered layout zones Plain k (recording block) steps kind → IsBack image steps kind
-block_back layout zones cpr k entry image block steps kind stands cpr_size size is does =
+block_back layout zones cpr k entry image block steps kind is_there cpr_size size is does =
     let rows = captured_rows Plain (recording block) in
     let marks = captured_marks Plain (recording block) in
-    let done = done_at (plan_of layout zones) (ForImage (IsImageDone layout k)) Plain k entry stands (recording block) steps kind does in
+    let done = done_at (plan_of layout zones) (ForImage (IsImageDone layout k)) Plain k entry is_there (recording block) steps kind does in
     elim (passed_back layout entry.content k entry rows marks image steps kind size done) [
       | inr back ↦ back
       | inl is_image ↦
-          let back = repaired layout zones Plain cpr k entry image (recording block) block steps kind stands is_image cpr_size size is
+          let back = repaired layout zones Plain cpr k entry image (recording block) block steps kind is_there is_image cpr_size size is
           ((sized_whole 37_856 (recording block)).1 (recording-size block is.product)) (recording-within block is.product) does in
-          record { good = back.1; writes = ap written back.0 ∙ append-nil image; silent = ap told back.0 }
+          record { good = back.1; writes = ap written back.0 ∙ append-nil image; silent = ap reported back.0 }
     ]
 
 -- what mastering writes for block k of the image bytes that it takes
 record IsRecorded (layout : Layout) (zones : Zones) (cpr : List ℕ) (k : ℕ) (own out : List ℕ) : Type 0 where
   entry : BlockPlan
-  stands : slice_get (plan_of layout zones) k ≡ Some entry
+  is_there : slice_get (plan_of layout zones) k ≡ Some entry
   block : List (List ℕ)
   is_block : IsBlockOf (frames_of layout entry cpr (filled_block own)) block
   writes : out ≡ recording block
@@ -109,16 +109,16 @@ record IsRecorded (layout : Layout) (zones : Zones) (cpr : List ℕ) (k : ℕ) (
 -- what mastering does for a block records it, and reports nothing
 recorded : (layout : Layout) (zones : Zones) (cpr : List ℕ) (k : ℕ) (own : List ℕ) (steps : List Step) (kind : UnitKind)
     → IsMastered layout zones cpr k own steps kind
-    → IsRecorded layout zones cpr k own (written steps) × (told steps ≡ [])
+    → IsRecorded layout zones cpr k own (written steps) × (reported steps ≡ [])
 recorded layout zones cpr k own steps kind m = (
   record {
     entry = m.entry;
-    stands = m.stands;
+    is_there = m.is_there;
     block = m.block;
     is_block = m.is_block;
     writes = ap written m.writes ∙ append-nil (recording m.block);
   },
-  ap told m.writes,
+  ap reported m.writes,
 )
 
 -- the units of mastering are good ones: each takes its image bytes and records its block
@@ -175,14 +175,14 @@ module _ (layout : Layout) (zones : Zones) (cpr image : List ℕ) (image_size : 
   -- block k takes the bytes of the image that are in it
   part_of : (content : Content) (k : ℕ) (entry : BlockPlan) → slice_get (plan_of layout zones) k ≡ Some entry → entry.content ≡ content
       → part k ≡ image_part layout entry image
-  part_of (Image sector) k entry stands is =
-      let within = slice_get_within (plan_of layout zones) k entry stands in
+  part_of (Image sector) k entry is_there is =
+      let within = slice_get_within (plan_of layout zones) k entry is_there in
       let at : start size k ≡ 2048 * image_from entry.content =
-      start-blocks layout zones k (omega (arith, within)) ∙ ap (λ n. 2048 * n) (plan_of-in_order layout zones k entry stands (subst IsImage (sym is) tt)) in
-      ap (λ n. take n (drop (start size k) image)) (size_is layout zones k entry stands) ∙ ap (λ n. take (image_bytes layout entry) (drop n image)) at
-  part_of Zero k entry stands is = none_there k entry (size_is layout zones k entry stands) (ap (λ c. 2048 * image_sectors layout c) is)
-  part_of Reference k entry stands is = none_there k entry (size_is layout zones k entry stands) (ap (λ c. 2048 * image_sectors layout c) is)
-  part_of Control k entry stands is = none_there k entry (size_is layout zones k entry stands) (ap (λ c. 2048 * image_sectors layout c) is)
+      start-blocks layout zones k (omega (arith, within)) ∙ ap (λ n. 2048 * n) (plan_of-in_order layout zones k entry is_there (subst IsImage (sym is) tt)) in
+      ap (λ n. take n (drop (start size k) image)) (size_is layout zones k entry is_there) ∙ ap (λ n. take (image_bytes layout entry) (drop n image)) at
+  part_of Zero k entry is_there is = none_there k entry (size_is layout zones k entry is_there) (ap (λ c. 2048 * image_sectors layout c) is)
+  part_of Reference k entry is_there is = none_there k entry (size_is layout zones k entry is_there) (ap (λ c. 2048 * image_sectors layout c) is)
+  part_of Control k entry is_there is = none_there k entry (size_is layout zones k entry is_there) (ap (λ c. 2048 * image_sectors layout c) is)
 
   -- MASTERED.
   module _ (mastered : Outcome) (pieces : InPieces size (λ k own out lines. IsRecorded layout zones cpr k own out × (lines ≡ [])) 0 count image image mastered) where
@@ -198,12 +198,12 @@ module _ (layout : Layout) (zones : Zones) (cpr image : List ℕ) (image_size : 
     recorded-block : (k : ℕ) (entry : BlockPlan) → slice_get (plan_of layout zones) k ≡ Some entry
         → (block : List (List ℕ)) × IsBlockOf (frames_of layout entry cpr (filled_block (image_part layout entry image))) block
         × (take 37_856 (drop (37_856 * k) mastered.out) ≡ recording block)
-    recorded-block k entry stands =
-        let lt = slice_get_within (plan_of layout zones) k entry stands in
+    recorded-block k entry is_there =
+        let lt = slice_get_within (plan_of layout zones) k entry is_there in
         let r = recorded-at k lt in
-        let same : r.entry ≡ entry = one_entry _ _ _ r.stands stands in (
+        let same : r.entry ≡ entry = one_entry _ _ _ r.is_there is_there in (
           r.block,
-          subst (λ l. IsBlockOf (frames_of layout entry cpr (filled_block l)) r.block) (part_of entry.content k entry stands refl)
+          subst (λ l. IsBlockOf (frames_of layout entry cpr (filled_block l)) r.block) (part_of entry.content k entry is_there refl)
               (subst (λ e. IsBlockOf (frames_of layout e cpr (filled_block (part k))) r.block) same r.is_block),
           ap (λ n. take 37_856 (drop n mastered.out)) (sym (start-same 37_856 k))
               ∙ ap (λ l. take 37_856 (drop (start (λ j. 37_856) k) l)) pieces.out_is ∙ piece-at pieces.outs (λ j. 37_856) count k out_size lt ∙ r.writes,
@@ -232,11 +232,11 @@ module _ (layout : Layout) (zones : Zones) (cpr image : List ℕ) (image_size : 
     back-at : (k : ℕ) (own : List ℕ) (steps : List Step) (kind : UnitKind) → k < count → own ≡ take 37_856 (drop (start (λ j. 37_856) k) stream)
         → IsRecovered layout zones Plain k own steps kind → IsBack (part k) steps kind
     back-at k own steps kind lt own_is does =
-        let (entry, stands) = some_entry (plan_of layout zones) k lt in
-        let (block, is_block, recorded) = is.each k entry stands in
+        let (entry, is_there) = some_entry (plan_of layout zones) k lt in
+        let (block, is_block, recorded) = is.each k entry is_there in
         let captured : own ≡ recording block = own_is ∙ ap (λ n. take 37_856 (drop n stream)) (start-same 37_856 k) ∙ recorded in
-        subst (λ l. IsBack l steps kind) (sym (part_of entry.content k entry stands refl))
-        (block_back layout zones cpr k entry (image_part layout entry image) block steps kind stands cpr_size (length-part layout entry.content image image_size) is_block
+        subst (λ l. IsBack l steps kind) (sym (part_of entry.content k entry is_there refl))
+        (block_back layout zones cpr k entry (image_part layout entry image) block steps kind is_there cpr_size (length-part layout entry.content image image_size) is_block
         (subst (λ l. IsRecovered layout zones Plain k l steps kind) captured does))
 
     -- the units of recovery over the stream are good ones, and give the parts of the image back
@@ -257,7 +257,7 @@ module _ (layout : Layout) (zones : Zones) (cpr image : List ℕ) (image_size : 
         let units = recover_units layout zones Plain in
         let all = over_is (only_these units (λ k. 37_856) (λ k bytes. refl) stream) (λ k. 37_856) (λ k own. part k) (λ k own. []) recovers_good stream recovered
         (runs_only units (λ k. 37_856) (λ k bytes. refl) stream recovered runs) none stream-size in
-        let out : recovered.out ≡ image = all.0 ∙ pieces-front size image count ∙ take_all (start size count) image (omega (arith, image_all)) in
+        let out : recovered.out ≡ image = all.0 ∙ pieces-prefix size image count ∙ take_all (start size count) image (omega (arith, image_all)) in
         let lines : recovered.lines ≡ [] = all.1 ∙ none_told (range_with_len 0 count) in
         outcome_is recovered stream image [] Done all.3 out lines all.2
 

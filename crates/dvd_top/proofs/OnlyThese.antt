@@ -1,6 +1,6 @@
 -- A run over known bytes is one of units that may have no others.
 use Rattle.std.proofs.Common.{◌≡◌, ◌∙◌, inl, inr, ℕ, zero, suc, ◌+◌, List, [], ◌∷◌, ◌++◌, length, length-append, take, drop, ap, sym, append_assoc, add-one, refl, arith}
-use Rattle.dvd_capture.proofs.Fetching.{part-append, part-behind}
+use Rattle.dvd_capture.proofs.Fetching.{part-append, part-after}
 use Rattle.dvd_loop.specs.Machine.{Continues, ContinuesAfter, IsOutcome, Outcome, Units, bad_of, sized}
 use Rattle.dvd_loop.specs.declared.ends.UnitKind.{UnitKind}
 use Rattle.dvd_loop.specs.declared.ends.UnitKind.TheVariants.{Good, Bad, Last}
@@ -16,10 +16,10 @@ goes_on_as Bad A B to after goes = to after goes
 goes_on_as Last A B to after goes = goes
 
 -- the bytes after those of the units before
-pub own_is : (all front own left : List ℕ) (a n : ℕ) → all ≡ (front ++ own) ++ left → length front ≡ a → length own ≡ n → own ≡ take n (drop a all)
-own_is all front own left a n is at size =
-    sym (part-behind front own a n at size)
-    ∙ sym (part-append (front ++ own) left a n (omega (arith, length-append front own)))
+pub own_is : (all prefix own left : List ℕ) (a n : ℕ) → all ≡ (prefix ++ own) ++ left → length prefix ≡ a → length own ≡ n → own ≡ take n (drop a all)
+own_is all prefix own left a n is at size =
+    sym (part-after prefix own a n at size)
+    ∙ sym (part-append (prefix ++ own) left a n (omega (arith, length-append prefix own)))
     ∙ ap (λ l. take n (drop a l)) (sym is)
 
 module _ (units : Units) (size : ℕ → ℕ) (begins : (k : ℕ) (bytes : List ℕ) → units.begins k bytes ≡ sized (size k) bytes) (all : List ℕ) where
@@ -28,24 +28,24 @@ module _ (units : Units) (size : ℕ → ℕ) (begins : (k : ℕ) (bytes : List 
   only_these = record units { does = λ k before own steps kind. units.does k before own steps kind × (own ≡ take (size k) (drop (start size k) all)) }
 
   -- a run after some of the units, over what is left of the bytes, is one of units that may have no others
-  goes_only : (n : ℕ) (before : List (List ℕ)) (bad : ℕ) (front left : List ℕ) (a : Outcome) → all ≡ front ++ left
-      → length front ≡ start size (length before)
+  goes_only : (n : ℕ) (before : List (List ℕ)) (bad : ℕ) (prefix left : List ℕ) (a : Outcome) → all ≡ prefix ++ left
+      → length prefix ≡ start size (length before)
       → Continues units n before bad left a → Continues only_these n before bad left a
   unfolding Continues
-  goes_only zero before bad front left a is at goes = goes
-  goes_only (suc n) before bad front left a is at (inl w) = inl (record { own = w.own; left = w.left; front = w.front; ends = w.ends; takes = w.takes })
-  goes_only (suc n) before bad front left a is at (inr t) =
+  goes_only zero before bad prefix left a is at goes = goes
+  goes_only (suc n) before bad prefix left a is at (inl w) = inl (record { own = w.own; left = w.left; prefix = w.prefix; ends = w.ends; takes = w.takes })
+  goes_only (suc n) before bad prefix left a is at (inr t) =
       let own_size = unit_size units size begins (length before) t.own t.unit.whole in
-      let parts : all ≡ (front ++ t.own) ++ t.left = is ∙ ap (λ l. front ++ l) t.front ∙ sym (append_assoc front t.own t.left) in
+      let parts : all ≡ (prefix ++ t.own) ++ t.left = is ∙ ap (λ l. prefix ++ l) t.prefix ∙ sym (append_assoc prefix t.own t.left) in
       let one = length-append before (t.own ∷ []) in
-      let further : length (front ++ t.own) ≡ start size (length (before ++ t.own ∷ [])) =
-      length-append front t.own ∙ omega (arith, at, own_size, start-suc size (length before)) ∙ ap (start size) (sym (one ∙ add-one (length before))) in
+      let further : length (prefix ++ t.own) ≡ start size (length (before ++ t.own ∷ [])) =
+      length-append prefix t.own ∙ omega (arith, at, own_size, start-suc size (length before)) ∙ ap (start size) (sym (one ∙ add-one (length before))) in
       let A : Outcome → Type 0 = Continues units n (before ++ t.own ∷ []) (bad + bad_of t.kind) t.left in
       let B : Outcome → Type 0 = Continues only_these n (before ++ t.own ∷ []) (bad + bad_of t.kind) t.left in
-      inr (taken_then only_these before _ left t.own t.left t.steps t.kind a t.after t.front
-      (record { whole = t.unit.whole; does = (t.unit.does, own_is all front t.own t.left (start size (length before)) (size (length before)) parts at own_size) })
+      inr (taken_then only_these before _ left t.own t.left t.steps t.kind a t.after t.prefix
+      (record { whole = t.unit.whole; does = (t.unit.does, own_is all prefix t.own t.left (start size (length before)) (size (length before)) parts at own_size) })
       (does_as t.steps (ContinuesAfter t.kind A) (ContinuesAfter t.kind B)
-      (goes_on_as t.kind A B (λ after goes. goes_only n (before ++ t.own ∷ []) (bad + bad_of t.kind) (front ++ t.own) t.left after parts further goes)) t.after t.does) t.takes)
+      (goes_on_as t.kind A B (λ after goes. goes_only n (before ++ t.own ∷ []) (bad + bad_of t.kind) (prefix ++ t.own) t.left after parts further goes)) t.after t.does) t.takes)
 
   -- and so is a whole run
   pub runs_only : (a : Outcome) → IsOutcome units all a → IsOutcome only_these all a

@@ -4,7 +4,7 @@ use Rattle.std.specs.Int.{from_be_bytes, w32}
 use Rattle.std.proofs.lemmas.Bool.{cases_lt}
 use Rattle.std.proofs.lemmas.List.{length-take-le}
 use Rattle.std.proofs.lemmas.List.Elements.{All-drop, All-take}
-use Rattle.dvd_capture.specs.Header.{IsFirstWrongByte, may_stand}
+use Rattle.dvd_capture.specs.Header.{IsFirstWrongByte, may_be_there}
 use Rattle.dvd_capture.specs.declared.form.Form.{Form}
 use Rattle.dvd_capture.specs.declared.form.Form.TheVariants.{Plain, Marked, Listed}
 use Rattle.dvd_capture.specs.declared.header.Header.{Header}
@@ -16,7 +16,7 @@ use Rattle.dvd_loop.specs.Laws.{IsFaultless}
 use Rattle.dvd_loop.specs.Machine.{Outcome, ended, taking}
 use Rattle.dvd_loop.specs.declared.ends.LoopEnd.TheVariants.{BadHeader, ReadFault, ShortHeader}
 use Rattle.dvd_loop.proofs.Faultless.{not_by_fault}
-use Rattle.dvd_loop.proofs.Fronts.{same_front, same_left}
+use Rattle.dvd_loop.proofs.Prefixes.{same_prefix, same_left}
 use Rattle.dvd_loop.proofs.Totality.{Exists}
 use Rattle.dvd_words.specs.Settings.{broken_rule}
 use Rattle.dvd_words.specs.declared.settings.Settings.{Settings}
@@ -48,7 +48,7 @@ record OpensBad (settings : Settings) (bytes : List ℕ) (a : Outcome) : Type 0 
   own : List ℕ
   left : List ℕ
   at : ℕ
-  front : bytes ≡ own ++ left
+  prefix : bytes ≡ own ++ left
   full : length own ≡ 32
   breaks : BreaksHeader settings own at
   is : a ≡ taking own (ended (BadHeader at))
@@ -59,7 +59,7 @@ record OpensOnto (Loops : Runs) (settings : Settings) (bytes : List ℕ) (a : Ou
   left : List ℕ
   stated : Settings
   after : Outcome
-  front : bytes ≡ own ++ left
+  prefix : bytes ≡ own ++ left
   full : length own ≡ 32
   header : IsHeaderOf settings stated own
   none : broken_rule stated ≡ None
@@ -74,20 +74,20 @@ opened_as Loops settings bytes a o none =
     elim o.comes [
       | inl (fewer, inr fault) ↦ absurd (not_by_fault o.after _ fault (λ f. f) faultless)
       | inl (fewer, inl (nothing, is)) ↦
-          let whole : o.own ≡ bytes = sym (o.front ∙ ap (λ l. o.own ++ l) nothing ∙ append-nil o.own) in
+          let whole : o.own ≡ bytes = sym (o.prefix ∙ ap (λ l. o.own ++ l) nothing ∙ append-nil o.own) in
           inl (record {
             fewer = subst (λ l. length l < 32) whole fewer;
             is = o.takes ∙ ap (taking o.own) is ∙ ap (λ l. taking l (ended (ShortHeader (length l)))) whole;
           })
       | inr (full, inl (at, breaks, is)) ↦
-          inr (inl (record { own = o.own; left = o.left; at = at; front = o.front; full = full; breaks = breaks; is = o.takes ∙ ap (taking o.own) is }))
+          inr (inl (record { own = o.own; left = o.left; at = at; prefix = o.prefix; full = full; breaks = breaks; is = o.takes ∙ ap (taking o.own) is }))
       | inr (full, inr (stated, header, valid, loops)) ↦
           inr (inr (record {
             own = o.own;
             left = o.left;
             stated = stated;
             after = o.after;
-            front = o.front;
+            prefix = o.prefix;
             full = full;
             header = header;
             none = valid;
@@ -98,7 +98,7 @@ opened_as Loops settings bytes a o none =
 
 -- fewer bytes than a header have don't begin with one
 too_few : (bytes own left : List ℕ) → length bytes < 32 → bytes ≡ own ++ left → length own ≡ 32 → ⊥
-too_few bytes own left fewer front full = omega (arith, fewer, ap length front, length-append own left, full)
+too_few bytes own left fewer prefix full = omega (arith, fewer, ap length prefix, length-append own left, full)
 
 -- What is done is determined, where it is so after the header.
 module _ (Loops : Runs)
@@ -107,15 +107,15 @@ module _ (Loops : Runs)
   -- two headers that break a rule break it at one place
   both_bad : OpensBad settings bytes a → OpensBad settings bytes b → AreSame a b
   both_bad p q =
-      let own = same_front p.own q.own p.left q.left (sym p.front ∙ q.front) (p.full ∙ sym q.full) in
+      let own = same_prefix p.own q.own p.left q.left (sym p.prefix ∙ q.prefix) (p.full ∙ sym q.full) in
       let at = breaks_once settings q.own p.at q.at (subst (λ l. BreaksHeader settings l p.at) own p.breaks) q.breaks in
       same_as a b (p.is ∙ ap (λ l. taking l (ended (BadHeader p.at))) own ∙ ap (λ n. taking q.own (ended (BadHeader n))) at ∙ sym q.is)
 
   -- two runs after a header are over the same bytes by the same settings
   both_onto : OpensOnto Loops settings bytes a → OpensOnto Loops settings bytes b → AreSame a b
   both_onto p q =
-      let own = same_front p.own q.own p.left q.left (sym p.front ∙ q.front) (p.full ∙ sym q.full) in
-      let left = same_left p.own q.own p.left q.left (sym p.front ∙ q.front) own in
+      let own = same_prefix p.own q.own p.left q.left (sym p.prefix ∙ q.prefix) (p.full ∙ sym q.full) in
+      let left = same_left p.own q.own p.left q.left (sym p.prefix ∙ q.prefix) own in
       let stated = stated_once settings p.stated q.stated q.own (subst (IsHeaderOf settings p.stated) own p.header) q.header in
       let loops : Loops q.stated q.left p.after = subst (λ s. Loops s q.left p.after) stated (subst (λ l. Loops p.stated l p.after) left p.loops) in
       same_onto q.own a b p.after q.after (p.is ∙ ap (λ l. taking l p.after) own) q.is
@@ -124,7 +124,7 @@ module _ (Loops : Runs)
   -- a header that breaks a rule states no settings
   not_both : (x y : Outcome) → OpensBad settings bytes x → OpensOnto Loops settings bytes y → ⊥
   not_both x y p q =
-      let own = same_front p.own q.own p.left q.left (sym p.front ∙ q.front) (p.full ∙ sym q.full) in
+      let own = same_prefix p.own q.own p.left q.left (sym p.prefix ∙ q.prefix) (p.full ∙ sym q.full) in
       breaks_or_states settings q.stated q.own p.at (subst (λ l. BreaksHeader settings l p.at) own p.breaks) q.header q.none
 
   -- so two runs that open with a header are the same
@@ -132,16 +132,16 @@ module _ (Loops : Runs)
   opened_once p q = elim (opened_as Loops settings bytes a p none) [
     | inl short ↦ elim (opened_as Loops settings bytes b q other) [
       | inl same ↦ same_as a b (short.is ∙ sym same.is)
-      | inr (inl bad) ↦ absurd (too_few bytes bad.own bad.left short.fewer bad.front bad.full)
-      | inr (inr onto) ↦ absurd (too_few bytes onto.own onto.left short.fewer onto.front onto.full)
+      | inr (inl bad) ↦ absurd (too_few bytes bad.own bad.left short.fewer bad.prefix bad.full)
+      | inr (inr onto) ↦ absurd (too_few bytes onto.own onto.left short.fewer onto.prefix onto.full)
     ]
     | inr (inl bad) ↦ elim (opened_as Loops settings bytes b q other) [
-      | inl short ↦ absurd (too_few bytes bad.own bad.left short.fewer bad.front bad.full)
+      | inl short ↦ absurd (too_few bytes bad.own bad.left short.fewer bad.prefix bad.full)
       | inr (inl same) ↦ both_bad bad same
       | inr (inr onto) ↦ absurd (not_both a b bad onto)
     ]
     | inr (inr onto) ↦ elim (opened_as Loops settings bytes b q other) [
-      | inl short ↦ absurd (too_few bytes onto.own onto.left short.fewer onto.front onto.full)
+      | inl short ↦ absurd (too_few bytes onto.own onto.left short.fewer onto.prefix onto.full)
       | inr (inl bad) ↦ absurd (not_both b a bad onto)
       | inr (inr same) ↦ both_onto onto same
     ]
@@ -176,7 +176,7 @@ pub after_header : (Loops : Runs) (Keeps : Settings → List ℕ → Outcome →
     → Opens form Loops settings bytes loop → AfterHeader form Keeps settings bytes loop
 after_header Loops Keeps loop Plain settings bytes law opens = law settings bytes loop refl opens
 after_header Loops Keeps loop Marked settings bytes law opens = law settings bytes loop refl opens
-after_header Loops Keeps loop Listed settings bytes law o = λ own left stated after front header valid is.
+after_header Loops Keeps loop Listed settings bytes law o = λ own left stated after prefix header valid is.
     let full = header-size settings stated own header in
     let had : loop.taken ≡ o.own ++ o.after.taken = ap (λ (x : Outcome). x.taken) o.takes in
     let has : loop.taken ≡ own ++ after.taken = ap (λ (x : Outcome). x.taken) is in
@@ -185,11 +185,11 @@ after_header Loops Keeps loop Listed settings bytes law o = λ own left stated a
       | inl (fewer, inl (nothing, ends)) ↦ absurd (few fewer (ap (λ (x : Outcome). x.taken) ends))
       | inl (fewer, inr ends) ↦ absurd (few fewer (ap (λ (x : Outcome). x.taken) ends))
       | inr (size, inl (at, breaks, ends)) ↦
-          let same = same_front o.own own o.left left (sym o.front ∙ front) (size ∙ sym full) in
+          let same = same_prefix o.own own o.left left (sym o.prefix ∙ prefix) (size ∙ sym full) in
           absurd (breaks_or_states settings stated own at (subst (λ l. BreaksHeader settings l at) same breaks) header valid)
       | inr (size, inr (other, opened, none, loops)) ↦
-          let same = same_front o.own own o.left left (sym o.front ∙ front) (size ∙ sym full) in
-          let rest = same_left o.own own o.left left (sym o.front ∙ front) same in
+          let same = same_prefix o.own own o.left left (sym o.prefix ∙ prefix) (size ∙ sym full) in
+          let rest = same_left o.own own o.left left (sym o.prefix ∙ prefix) same in
           let one = stated_once settings other stated own (subst (IsHeaderOf settings other) same opened) header in
           let whole : o.after ≡ after = taking_once own o.after after (ap (λ l. taking l o.after) (sym same) ∙ sym o.takes ∙ is) in
           let goes : Loops stated left o.after = subst (λ s. Loops s left o.after) one (subst (λ l. Loops other l o.after) rest loops) in
@@ -213,7 +213,7 @@ module _ (Loops : Runs) (there : (stated : Settings) (left : List ℕ) (a : Outc
             let after = ended (ShortHeader (length o.own)) in
             let taken : a.taken ≡ o.own ++ [] = ap (λ (x : Outcome). x.taken) (o.takes ∙ ap (taking o.own) is) in (
               taking o.own after,
-              record { own = o.own; left = []; front = taken; after = after; comes = inl (fewer, inl (refl, refl)); takes = refl },
+              record { own = o.own; left = []; prefix = taken; after = after; comes = inl (fewer, inl (refl, refl)); takes = refl },
               tt,
               sym taken,
               sym (ap (λ (x : Outcome). x.out) (o.takes ∙ ap (taking o.own) is)),
@@ -225,7 +225,7 @@ module _ (Loops : Runs) (there : (stated : Settings) (left : List ℕ) (a : Outc
               record {
                 own = o.own;
                 left = o.after.taken;
-                front = ap (λ (x : Outcome). x.taken) o.takes;
+                prefix = ap (λ (x : Outcome). x.taken) o.takes;
                 after = b;
                 comes = inr (full, inr (stated, header, valid, so));
                 takes = refl;
@@ -252,17 +252,17 @@ shape_of (suc (suc (suc n))) below = absurd (omega (arith, below))
 
 -- the first of n bytes that a header can't have at its place, or it can have all
 first_or_none : (own : List ℕ) (n : ℕ) → n ≤ 32
-    → ((at : ℕ) × IsFirstWrongByte own at) ⊎ ((place : ℕ) → place < n → may_stand place (slice_index own place) ≡ true)
+    → ((at : ℕ) × IsFirstWrongByte own at) ⊎ ((place : ℕ) → place < n → may_be_there place (slice_index own place) ≡ true)
 first_or_none own zero within = inr (λ place below. absurd (omega (arith, below)))
 first_or_none own (suc n) within = elim (first_or_none own n (omega (arith, within))) [
   | inl wrong ↦ inl wrong
   | inr may ↦
-      elim (may_stand n (slice_index own n)) as (λ b. may_stand n (slice_index own n) ≡ b
-      → ((at : ℕ) × IsFirstWrongByte own at) ⊎ ((place : ℕ) → place < suc n → may_stand place (slice_index own place) ≡ true)) [
+      elim (may_be_there n (slice_index own n)) as (λ b. may_be_there n (slice_index own n) ≡ b
+      → ((at : ℕ) × IsFirstWrongByte own at) ⊎ ((place : ℕ) → place < suc n → may_be_there place (slice_index own place) ≡ true)) [
         | false ↦ λ is. inl (n, record { within = omega (arith, within); wrong = is; before = may })
         | true ↦ λ is. inr (λ place below. elim (cases_lt place n) [
           | inl less ↦ may place less
-          | inr le ↦ let same : n ≡ place = omega (arith, below, le) in subst (λ k. may_stand k (slice_index own k) ≡ true) same is
+          | inr le ↦ let same : n ≡ place = omega (arith, below, le) in subst (λ k. may_be_there k (slice_index own k) ≡ true) same is
         ])
       ] refl
 ]
@@ -271,7 +271,7 @@ first_or_none own (suc n) within = elim (first_or_none own n (omega (arith, with
 number-small : (a b c d : ℕ) → a < 256 → b < 256 → c < 256 → d < 256 → from_be_bytes w32 (a ∷ b ∷ c ∷ d ∷ []) < 2 ^ 32
 number-small a b c d sa sb sc sd = omega (arith, sa, sb, sc, sd)
 
-module _ (own : List ℕ) (size : length own ≡ 32) (are : All IsByte own) (may : (place : ℕ) → place < 32 → may_stand place (slice_index own place) ≡ true) where
+module _ (own : List ℕ) (size : length own ≡ 32) (are : All IsByte own) (may : (place : ℕ) → place < 32 → may_be_there place (slice_index own place) ≡ true) where
   -- each is a byte
   small : (k : ℕ) → k < 32 → slice_index own k < 256
   small k below = are k 0 (omega (arith, below, size))
@@ -326,22 +326,22 @@ module _ (Loops : Runs) (settings : Settings) (bytes : List ℕ) (are : All IsBy
   onto_exists : (own left : List ℕ) → bytes ≡ own ++ left → length own ≡ 32 → All IsByte left → (stated : Settings)
       → IsHeaderOf settings stated own
       → (broken : Option LayoutFault) → broken_rule stated ≡ broken → Exists (IsOpened Loops settings bytes)
-  onto_exists own left front full rest stated header (Some fault) broken = (
+  onto_exists own left prefix full rest stated header (Some fault) broken = (
     taking own (ended (BadHeader (fault_byte fault))),
     record {
       own = own;
       left = left;
-      front = front;
+      prefix = prefix;
       after = ended (BadHeader (fault_byte fault));
       comes = inr (full, inl (fault_byte fault, inr (stated, fault, header, broken, refl), refl));
       takes = refl;
     },
     tt,
   )
-  onto_exists own left front full rest stated header None valid =
+  onto_exists own left prefix full rest stated header None valid =
       let (after, loops, none) = some stated left rest own header valid in (
         taking own after,
-        record { own = own; left = left; front = front; after = after; comes = inr (full, inr (stated, header, valid, loops)); takes = refl },
+        record { own = own; left = left; prefix = prefix; after = after; comes = inr (full, inr (stated, header, valid, loops)); takes = refl },
         none,
       )
 
@@ -353,7 +353,7 @@ module _ (Loops : Runs) (settings : Settings) (bytes : List ℕ) (are : All IsBy
       record {
         own = bytes;
         left = [];
-        front = sym (append-nil bytes);
+        prefix = sym (append-nil bytes);
         after = ended (ShortHeader (length bytes));
         comes = inl (fewer, inl (refl, refl));
         takes = refl;
@@ -364,15 +364,15 @@ module _ (Loops : Runs) (settings : Settings) (bytes : List ℕ) (are : All IsBy
         let own = take 32 bytes in
         let left = drop 32 bytes in
         let full = length-take-le 32 bytes enough in
-        let front : bytes ≡ own ++ left = sym (take-append-drop 32 bytes) in
+        let prefix : bytes ≡ own ++ left = sym (take-append-drop 32 bytes) in
         elim (first_or_none own 32 (omega arith)) [
           | inl (at, wrong) ↦ (
             taking own (ended (BadHeader at)),
-            record { own = own; left = left; front = front; after = ended (BadHeader at); comes = inr (full, inl (at, inl wrong, refl)); takes = refl },
+            record { own = own; left = left; prefix = prefix; after = ended (BadHeader at); comes = inr (full, inl (at, inl wrong, refl)); takes = refl },
             tt,
           )
           | inr may ↦
               let stated = states own full (All-take IsByte 32 bytes are) may settings in
-              onto_exists own left front full (All-drop IsByte 32 bytes are) stated.0 stated.1 (broken_rule stated.0) refl
+              onto_exists own left prefix full (All-drop IsByte 32 bytes are) stated.0 stated.1 (broken_rule stated.0) refl
         ]
   ]

@@ -10,7 +10,7 @@ use Rattle.dvd_layout.specs.declared.layout.Layout.{Layout}
 use Rattle.dvd_layout.proofs.NoFault.{no_fault}
 use Rattle.dvd_loop.specs.Laws.{IsFaultless, IsOver}
 use Rattle.dvd_loop.specs.Machine.{IsOutcome, Outcome}
-use Rattle.dvd_loop.specs.Streams.{HaveMoved, IsTold, Streams}
+use Rattle.dvd_loop.specs.Streams.{HaveMoved, AreKnown, Streams}
 use Rattle.dvd_loop.specs.declared.ends.LoopEnd.{LoopEnd}
 use Rattle.dvd_loop.specs.declared.ends.LoopEnd.TheVariants.{Damaged, Done}
 use Rattle.dvd_ports.specs.Seen.{Seen}
@@ -61,7 +61,7 @@ module _ (settings : Settings) (old new : Streams) (result : Status) (run : IsRu
   -- it goes over these bytes
   goes : settings.form ≢ Listed → GoesOver settings bytes run.loop
   goes plain =
-      let is : bytes ≡ run.bytes = subst (λ b. IsTold b run.bytes) known run.told in
+      let is : bytes ≡ run.bytes = subst (λ b. AreKnown b run.bytes) known run.known in
       in_words settings.form settings bytes run.loop plain (subst (λ b. IsLoop settings b run.loop) (sym is) run.is_loop)
 
   -- its closing line is reported whole
@@ -110,8 +110,8 @@ capture_recovered layout zones form capture a one rows runs none =
     }) capture a runs none over in (
       record {
         size = all ∙ start-all layout zones;
-        each = λ k entry own stands own_is.
-            each_there layout zones form capture a one size runs none entry.content k entry own stands refl (own_is ∙ sym (block-is form one capture k));
+        each = λ k entry own is_there own_is.
+            each_there layout zones form capture a one size runs none entry.content k entry own is_there refl (own_is ∙ sym (block-is form one capture k));
       },
       ends.taken ∙ take_all (count * block_size form + 1) capture (omega (arith, size)),
       over,
@@ -144,7 +144,7 @@ run_gives settings old new result run layout cpr image stream is plain is_layout
 pub reported : (wanted : Status) (line : List ℕ) (old new : Seen) (result : Status) → Reports wanted line old new result → (Rose old.faults new.faults → ⊥)
     → result ≡ wanted
 reported wanted line old new result reports none = elim reports [
-  | inl (is, told, on) ↦ is
+  | inl (is, known, on) ↦ is
   | inr (is, begun, failed) ↦ absurd (none (rose old new failed))
 ]
 
@@ -152,7 +152,7 @@ reported wanted line old new result reports none = elim reports [
 pub no_run_failed : (wanted : Status) (line : List ℕ) (old new : Streams) (result : Status) → (HasGoneOn old.report new.report → HaveFailed wanted old new)
     → Reports wanted line old.report new.report result → HaveFailed result old new
 no_run_failed wanted line old new result told_whole reports = elim reports [
-  | inl (is, told, on) ↦ subst (λ s. HaveFailed s old new) (sym is) (told_whole on)
+  | inl (is, known, on) ↦ subst (λ s. HaveFailed s old new) (sym is) (told_whole on)
   | inr (is, begun, failed) ↦ subst (λ s. HaveFailed s old new) (sym is) failed
 ]
 

@@ -7,7 +7,7 @@ use Rattle.dvd_capture.specs.declared.form.Form.{Form}
 use Rattle.dvd_capture.specs.declared.form.Form.TheVariants.{Plain, Marked, Listed}
 use Rattle.dvd_loop.specs.Laws.{IsFaultless}
 use Rattle.dvd_loop.specs.Machine.{Closes, Performs, Outcome, ended}
-use Rattle.dvd_loop.specs.Machine.Step.{Tell}
+use Rattle.dvd_loop.specs.Machine.Step.{Report}
 use Rattle.dvd_loop.specs.Streams.{Counts, HaveCauses, SourceCounts, Streams, is_report_fault}
 use Rattle.dvd_loop.specs.declared.ends.LoopEnd.{LoopEnd}
 use Rattle.dvd_loop.specs.declared.ends.LoopEnd.TheVariants.{ReadFault, ReportFault, WriteFault}
@@ -25,13 +25,13 @@ use Rattle.dvd_top.proofs.MasteredStream.{outcome_is}
 use Rattle.dvd_top.proofs.OpenedRuns.{IsAsEnded, opens_there}
 
 -- a closing line after which the end isn't a fault of the report was reported whole
-line_is : (closing : LoopEnd → List ℕ) (end : LoopEnd) (line : Outcome) → Performs (Tell (closing end) ∷ []) (λ after. after ≡ ended end) line
+line_is : (closing : LoopEnd → List ℕ) (end : LoopEnd) (line : Outcome) → Performs (Report (closing end) ∷ []) (λ after. after ≡ ended end) line
     → line.end ≢ ReportFault
     → line ≡ record { taken = []; out = []; lines = closing end; end = end }
 line_is closing end line does sound = elim does [
-  | inl (front, left, whole, some, is) ↦ absurd (sound (ap (λ (o : Outcome). o.end) is))
-  | inr (after, is, told) ↦
-      told ∙ ap (λ (o : Outcome). record { taken = o.taken; out = o.out; lines = closing end ++ o.lines; end = o.end }) is
+  | inl (prefix, left, whole, some, is) ↦ absurd (sound (ap (λ (o : Outcome). o.end) is))
+  | inr (after, is, known) ↦
+      known ∙ ap (λ (o : Outcome). record { taken = o.taken; out = o.out; lines = closing end ++ o.lines; end = o.end }) is
       ∙ ap (λ l. record { taken = []; out = []; lines = l; end = end }) (append-nil (closing end))
 ]
 

@@ -56,7 +56,7 @@ module _ (settings : Settings) (old : Streams) (source output mid_report new_rep
   moved = record {
     reads = looped.loop.comes.moved.reads;
     writes = looped.loop.comes.moved.writes;
-    tells = Appends-then _ _ _ looped.loop.comes.outcome.lines line.outcome.lines looped.loop.comes.moved.tells line.moved.tells;
+    reports = Appends-then _ _ _ looped.loop.comes.outcome.lines line.outcome.lines looped.loop.comes.moved.reports line.moved.reports;
   }
 
   -- each fault among them is one failed call
@@ -76,7 +76,7 @@ module _ (settings : Settings) (old : Streams) (source output mid_report new_rep
       let ends : end ≢ ReportFault → line.outcome.end ≡ comes.outcome.end = λ not. line.ends ∙ same not ∙ sym comes.ends in
       record {
         bytes = comes.bytes;
-        told = comes.told;
+        known = comes.known;
         loop = comes.outcome;
         is_loop = comes.holds;
         line = line.outcome;

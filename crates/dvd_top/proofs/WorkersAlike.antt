@@ -8,7 +8,7 @@ use Rattle.dvd_commands.specs.CdBound.{IsCorrectableSector, KeepsSectors}
 use Rattle.dvd_commands.specs.Commands.{GoesOver}
 use Rattle.dvd_top.specs.Headline.{IsLoop, IsRun}
 use Rattle.dvd_top.specs.Laws.{WorkersChangeNothing}
-use Rattle.dvd_commands.specs.Opening.{BreaksHeader, ComesBehind, Opens}
+use Rattle.dvd_commands.specs.Opening.{BreaksHeader, ComesAfterHeader, Opens}
 use Rattle.dvd_commands.proofs.EachCommand.{facts_of}
 use Rattle.dvd_commands.proofs.OtherWorkers.{header_with, set_workers}
 use Rattle.dvd_words.specs.declared.settings.Settings.{Settings}
@@ -29,8 +29,8 @@ module _ (workers : ℕ) where
   goes_with settings = (facts_of settings.command).alike workers settings
 
   -- so the same comes after a header
-  comes_with : (settings : Settings) (own left : List ℕ) (after : Outcome) → ComesBehind GoesOver settings own left after
-      → ComesBehind GoesOver (set_workers workers settings) own left after
+  comes_with : (settings : Settings) (own left : List ℕ) (after : Outcome) → ComesAfterHeader GoesOver settings own left after
+      → ComesAfterHeader GoesOver (set_workers workers settings) own left after
   comes_with settings own left after comes = elim comes [
     | inl fewer ↦ inl fewer
     | inr (full, inl (at, breaks, is)) ↦ inr (full, inl (at, breaks_with settings own at breaks, is))
@@ -46,7 +46,7 @@ module _ (workers : ℕ) where
   opens_with Listed settings bytes outcome o = record {
     own = o.own;
     left = o.left;
-    front = o.front;
+    prefix = o.prefix;
     after = o.after;
     comes = comes_with settings o.own o.left o.after o.comes;
     takes = o.takes;
@@ -81,7 +81,7 @@ module _ (workers : ℕ) where
   run_with : (settings : Settings) (old new : Streams) (result : Status) → IsRun settings old new result → IsRun (set_workers workers settings) old new result
   run_with settings old new result run = record {
     bytes = run.bytes;
-    told = run.told;
+    known = run.known;
     loop = run.loop;
     is_loop = loop_with settings run.bytes run.loop run.is_loop;
     line = run.line;

@@ -4,7 +4,7 @@ use Rattle.std.specs.Io.KnownBytes.{Appends}
 use Rattle.dvd_layout.specs.declared.fault.LayoutFault.{LayoutFault}
 use Rattle.dvd_loop.specs.Laws.{IsFaultless}
 use Rattle.dvd_loop.specs.Machine.{Closes, Outcome}
-use Rattle.dvd_loop.specs.Streams.{HaveCauses, HaveMoved, IsTold, Streams}
+use Rattle.dvd_loop.specs.Streams.{HaveCauses, HaveMoved, AreKnown, Streams}
 use Rattle.dvd_loop.specs.declared.ends.LoopEnd.{LoopEnd}
 use Rattle.dvd_loop.specs.declared.ends.LoopEnd.TheVariants as ends
 use Rattle.dvd_ports.specs.Causes.{HasFailed, HasGoneOn, HasMetEnd}
@@ -42,7 +42,7 @@ IsLoop settings bytes outcome = Opens settings.form GoesOver settings bytes outc
 pub record IsRun (settings : Settings) (old new : Streams) (result : Status) : Type 0 where
   -- the bytes of the input, if the source's are known; else, as of a pipe, some that begin with what its reads returned
   pub bytes : List ℕ
-  pub told : IsTold old.source.bytes bytes
+  pub known : AreKnown old.source.bytes bytes
   -- what the loop did, and then the closing line of its end, as `read fault`: none after a failed report
   pub loop : Outcome
   pub is_loop : IsLoop settings bytes loop

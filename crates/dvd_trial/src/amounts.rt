@@ -83,11 +83,11 @@ pub fn spell(
 ) -> Option<usize> {
     let mut cases = 1;
     spelt.clear();
-    let Some((front, rest)) = text.split_once(brackets[0]) else {
+    let Some((prefix, rest)) = text.split_once(brackets[0]) else {
         spelt.push_str(text).ok()?;
         return Some(cases);
     };
-    spelt.push_str(front).ok()?;
+    spelt.push_str(prefix).ok()?;
     for part in rest.split(brackets[0]) {
         let (values, rest) = part.split_once(brackets[1])?;
         cases = put_value(alloc, values, k, spelt)?.max(cases);

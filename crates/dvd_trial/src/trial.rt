@@ -208,7 +208,7 @@ impl<'a, R: AllocGlobal + Threads + Sync> TrialState<'a, R> {
             name.as_str() == status
                 && (has_begun || left.read == 0)
                 && left.output.len() == amount(length)?
-                && is_front(&left.output, &self.output)
+                && is_prefix(&left.output, &self.output)
                 && left.report.as_slice() == lines,
         )
     }
@@ -249,7 +249,7 @@ impl<'a, R: AllocGlobal + Threads + Sync> TrialState<'a, R> {
 }
 
 // Whether these bytes are the first ones of the whole output, which may be any where no text says it.
-fn is_front(bytes: &[u8], output: &Option<Vec<u8>>) -> bool {
+fn is_prefix(bytes: &[u8], output: &Option<Vec<u8>>) -> bool {
     match output {
         Some(whole) => whole.starts_with(bytes),
         None => true,

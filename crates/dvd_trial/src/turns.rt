@@ -48,9 +48,9 @@ impl<'a, R: AllocGlobal + Threads + Sync> TrialState<'a, R> {
             for count in 0..calls {
                 self.go(0, Plan { step, call, count })?;
                 match call {
-                    Read => self.leaves_front_read()?,
-                    Write => self.leaves_front_written()?,
-                    _ => self.leaves_front_reported()?,
+                    Read => self.leaves_prefix_read()?,
+                    Write => self.leaves_prefix_written()?,
+                    _ => self.leaves_prefix_reported()?,
                 }
             }
             self.stays(
@@ -66,22 +66,22 @@ impl<'a, R: AllocGlobal + Threads + Sync> TrialState<'a, R> {
     }
 
     // It left what a run over only the bytes that it read leaves, with the fault in place of the closing line.
-    fn leaves_front_read(&self) -> Option<()> {
+    fn leaves_prefix_read(&self) -> Option<()> {
         let words = self.words.split(" or ").next()?;
         let read = self.case.get(..self.left.read)?;
-        let (left, mut front) = (&self.left, Left::new(self.alloc));
-        run_over(self.rt, &OpenGate, words, read, SOUND, &mut front)?;
+        let (left, mut prefix) = (&self.left, Left::new(self.alloc));
+        run_over(self.rt, &OpenGate, words, read, SOUND, &mut prefix)?;
         let lines = left.report.strip_suffix(b"read fault\n")?;
         is(
             left.status == Status::ReadFault
-                && front.status != Status::NoMemory
-                && left.output.as_slice() == front.output.as_slice()
-                && is_last_line(front.report.strip_prefix(lines)?),
+                && prefix.status != Status::NoMemory
+                && left.output.as_slice() == prefix.output.as_slice()
+                && is_last_line(prefix.report.strip_prefix(lines)?),
         )
     }
 
     // It wrote a prefix, and reported some of the lines, not the last one, and then the fault.
-    fn leaves_front_written(&self) -> Option<()> {
+    fn leaves_prefix_written(&self) -> Option<()> {
         let (left, kept) = (&self.left, &self.kept);
         let lines = left.report.strip_suffix(b"write fault\n")?;
         is(
@@ -94,7 +94,7 @@ impl<'a, R: AllocGlobal + Threads + Sync> TrialState<'a, R> {
     }
 
     // Its output and its report are prefixes. Where the closing line failed, all was written.
-    fn leaves_front_reported(&self) -> Option<()> {
+    fn leaves_prefix_reported(&self) -> Option<()> {
         let (left, kept) = (&self.left, &self.kept);
         let rest = kept.report.strip_prefix(left.report.as_slice())?;
         is(
@@ -125,8 +125,8 @@ impl<'a, R: AllocGlobal + Threads + Sync> TrialState<'a, R> {
         let words = self.words.split(" or ").nth(k)?;
         let length = self.case.len();
         for length in &[length, length.saturating_sub(1)] {
-            let front = self.case.get(..*length)?;
-            run_over(self.rt, &OpenGate, words, front, plan, &mut self.left)?;
+            let prefix = self.case.get(..*length)?;
+            run_over(self.rt, &OpenGate, words, prefix, plan, &mut self.left)?;
             is(self.left.has_stopped || self.left.status == Status::Done)?;
         }
         Some(())

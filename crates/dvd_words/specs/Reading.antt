@@ -50,8 +50,8 @@ abbrev pub is_given : Text → List Row → Bool
 is_given name rows = is_some (first_of name rows)
 
 -- whether an option gives the shape of a disk, its lengths or its zones
-abbrev pub tells_layout : List Row → Bool
-tells_layout rows =
+abbrev pub states_layout : List Row → Bool
+states_layout rows =
     is_given (codes "sectors") rows || (is_given (codes "sectors1") rows || (is_given (codes "shape") rows
     || (is_given (codes "zones") rows || (is_given (codes "initial") rows || is_given (codes "tail") rows))))
 
@@ -61,7 +61,7 @@ takes_listed command = (command_entry command).takes_listed
 
 -- The layout is stated once: a listed capture states its own, and then no option may; else the arguments state it.
 abbrev pub has_layout : Command → Form → List Row → Bool
-has_layout command Listed rows = takes_listed command && not (tells_layout rows)
+has_layout command Listed rows = takes_listed command && not (states_layout rows)
 has_layout command other rows = not (command_entry command).sectors_or_listed || is_given (codes "sectors") rows
 
 -- each option by its form, the layout stated once, and the limit of the command kept

@@ -4,7 +4,7 @@
 
 ghost use Rattle.std.specs.Prelude.{◌≡◌, ◌+◌, None, IfOk, IfSome, map, option_map, string_bytes};
 ghost use Rattle.clap.specs.Words.{first_of, found_of, rows_of};
-ghost use Rattle.dvd_words.specs.Reading.{IsValid, Reads, has_layout, is_given, is_within, tells_layout, reading, settings_of};
+ghost use Rattle.dvd_words.specs.Reading.{IsValid, Reads, has_layout, is_given, is_within, states_layout, reading, settings_of};
 
 use crate::fault::WordsFault;
 use crate::parser::parse;
@@ -75,14 +75,14 @@ fn has_layout(command: Command, form: Form, matches: &ArgMatches<'_>) -> bool
 {
     let spec = spec_of(command);
     match form {
-        Form::Listed => spec.takes_listed && !tells_layout(matches),
+        Form::Listed => spec.takes_listed && !states_layout(matches),
         Form::Plain | Form::Marked => !spec.sectors_or_listed || is_given(matches, "sectors"),
     }
 }
 
 // Whether an option states the layout or a part of it. A value that is also the default counts, as it was written.
-fn tells_layout(matches: &ArgMatches<'_>) -> bool
-    ensures { result ≡ tells_layout (rows_of (found_of matches.now)) }
+fn states_layout(matches: &ArgMatches<'_>) -> bool
+    ensures { result ≡ states_layout (rows_of (found_of matches.now)) }
 {
     is_given(matches, "sectors")
         || is_given(matches, "sectors1")

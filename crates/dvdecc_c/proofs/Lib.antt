@@ -1,5 +1,5 @@
 -- Why the contracts hold.
-pub mod BehindZeros
+pub mod AfterZeros
 pub mod Filling
 pub mod SectorsRead
 pub mod WholeCapture

@@ -29,5 +29,5 @@ IsAnswered sector address (Some (Some cause)) = IsCause sector address cause
 
 -- the number that is reported: causes but that of the EDC have one
 abbrev pub with_number : ℕ → ℕ → ℕ → ℕ
-with_number status told before =
-    if status == CD_PARITY then told else if status == CD_MODE then told else if status == CD_ADDRESS then told else before
+with_number status said before =
+    if status == CD_PARITY then said else if status == CD_MODE then said else if status == CD_ADDRESS then said else before

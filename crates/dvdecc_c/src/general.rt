@@ -79,7 +79,7 @@ fn encode_any(word: &mut [u8], parity: u32)
     requires short { length word.old ≤ 255 }
     ensures { IsEncoded (length word.old) parity (take (length word.old - parity) word.old) word.new }
 {
-    by_parity!(parity, encode_behind_zeros, (word, parity):
+    by_parity!(parity, encode_after_zeros, (word, parity):
         1 2 3 4 5 6 7 8 9 10 11 12 13 14 15 16 17 18 19 20 21 22 23 24 25 26 27 28 29 30 31; 32)
 }
 
@@ -95,13 +95,13 @@ fn decode_any(word: &mut [u8], lost: &[u8], parity: u32, correction: &mut Correc
     ensures correction { correction.new
         ≡ with_correction (near_of (length word.old) parity word.old (lost_marks lost.now)) word.old (lost_marks lost.now) correction.old }
 {
-    by_parity!(parity, decode_behind_zeros, (word, lost, parity, correction):
+    by_parity!(parity, decode_after_zeros, (word, lost, parity, correction):
         1 2 3 4 5 6 7 8 9 10 11 12 13 14 15 16 17 18 19 20 21 22 23 24 25 26 27 28 29 30 31; 32)
 }
 
 // Sets the parity of a word, as the end of one of 255 bytes. Zeros before a word change none of its values, so the
 // parity is that of the word. `parity` is `R` as a number, which the clauses name.
-fn encode_behind_zeros<const R: usize>(word: &mut [u8], parity: u32)
+fn encode_after_zeros<const R: usize>(word: &mut [u8], parity: u32)
     requires parity { parity ≡ R }
     requires some { 1 ≤ R }
     requires few { R ≤ 32 }
@@ -109,15 +109,15 @@ fn encode_behind_zeros<const R: usize>(word: &mut [u8], parity: u32)
     requires short { length word.old ≤ 255 }
     ensures { IsEncoded (length word.old) parity (take (length word.old - parity) word.old) word.new }
 {
-    let front = 255 - word.len();
-    let mut whole = behind_zeros(word);
+    let zeros_before = 255 - word.len();
+    let mut whole = after_zeros(word);
     Code::<255, R>::new().encode(&mut whole);
-    word.copy_from_slice(&whole[front..]);
+    word.copy_from_slice(&whole[zeros_before..]);
 }
 
 // Decodes a word, as the end of one of 255 bytes. A codeword near that one is near the word only where it begins with
 // zeros.
-fn decode_behind_zeros<const R: usize>(
+fn decode_after_zeros<const R: usize>(
     word: &mut [u8],
     lost: &[u8],
     parity: u32,
@@ -134,25 +134,25 @@ fn decode_behind_zeros<const R: usize>(
     ensures correction { correction.new
         ≡ with_correction (near_of (length word.old) parity word.old (lost_marks lost.now)) word.old (lost_marks lost.now) correction.old }
 {
-    let front = 255 - word.len();
-    let mut whole = behind_zeros(word);
+    let zeros_before = 255 - word.len();
+    let mut whole = after_zeros(word);
     // A copy, since the caller's correction stays also where the codeword that is found doesn't begin with zeros.
     let mut fix = *correction;
-    let status = decode_word::<255, R>(&mut whole, &behind_zeros(lost), &mut fix);
+    let status = decode_word::<255, R>(&mut whole, &after_zeros(lost), &mut fix);
     if status != status::OK {
         return status::UNCORRECTABLE;
     }
     // A codeword that has other bytes there is none of the word's length.
-    if !are_zeros(&whole[..front]) {
+    if !are_zeros(&whole[..zeros_before]) {
         return status::UNCORRECTABLE;
     }
-    word.copy_from_slice(&whole[front..]);
+    word.copy_from_slice(&whole[zeros_before..]);
     *correction = fix;
     status::OK
 }
 
 // A word, or its lost places, with zeros before it, 255 bytes in all. So none of the zeros is marked as lost.
-fn behind_zeros(word: &[u8]) -> [u8; 255]
+fn after_zeros(word: &[u8]) -> [u8; 255]
     requires { length word.now ≤ 255 }
     ensures { result ≡ replicate (255 - length word.now) 0 ++ word.now }
 {

@@ -108,12 +108,12 @@ same_first : (x d n : ℕ) → d ≤ n → (if x == x then 0 else 1) + d ≤ n
 same_first x d n below = grind (arith, nat_tests)
 
 -- words with the same front differ at most in the places after it
-distance-front : (front a b : List ℕ) → length a ≡ length b → distance (front ++ a) (front ++ b) ≤ length a
+distance-prefix : (prefix a b : List ℕ) → length a ≡ length b → distance (prefix ++ a) (prefix ++ b) ≤ length a
 unfolding distance
-distance-front [] [] b same = omega arith
-distance-front [] (x ∷ a) [] same = absurd (omega arith)
-distance-front [] (x ∷ a) (y ∷ b) same = at_most_one x y (distance a b) (length a) (distance-front [] a b (omega arith))
-distance-front (x ∷ front) a b same = same_first x (distance (front ++ a) (front ++ b)) (length a) (distance-front front a b same)
+distance-prefix [] [] b same = omega arith
+distance-prefix [] (x ∷ a) [] same = absurd (omega arith)
+distance-prefix [] (x ∷ a) (y ∷ b) same = at_most_one x y (distance a b) (length a) (distance-prefix [] a b (omega arith))
+distance-prefix (x ∷ prefix) a b same = same_first x (distance (prefix ++ a) (prefix ++ b)) (length a) (distance-prefix prefix a b same)
 
 -- a message has one encoded word at most
 pub encoded_once : (n r : ℕ) (message a b : List ℕ) → n ≤ 255 → r ≤ n → IsEncoded n r message a → IsEncoded n r message b → a ≡ b
@@ -121,8 +121,8 @@ encoded_once n r message a b short fits code_a code_b =
     let size_a : length a ≡ n = code_a.codeword.size in
     let size_b : length b ≡ n = code_b.codeword.size in
     let same : length (drop (n - r) a) ≡ length (drop (n - r) b) = omega (arith, length-drop (n - r) a, length-drop (n - r) b) in
-    let front : take (n - r) b ≡ take (n - r) a = code_b.begins ∙ sym code_a.begins in
-    let parts_b : take (n - r) a ++ drop (n - r) b ≡ b = ap (λ xs. xs ++ drop (n - r) b) (sym front) ∙ take-append-drop (n - r) b in
-    let close : distance (take (n - r) a ++ drop (n - r) a) (take (n - r) a ++ drop (n - r) b) ≤ length (drop (n - r) a) = distance-front (take (n - r) a) (drop (n - r) a) (drop (n - r) b) same in
+    let prefix : take (n - r) b ≡ take (n - r) a = code_b.begins ∙ sym code_a.begins in
+    let parts_b : take (n - r) a ++ drop (n - r) b ≡ b = ap (λ xs. xs ++ drop (n - r) b) (sym prefix) ∙ take-append-drop (n - r) b in
+    let close : distance (take (n - r) a ++ drop (n - r) a) (take (n - r) a ++ drop (n - r) b) ≤ length (drop (n - r) a) = distance-prefix (take (n - r) a) (drop (n - r) a) (drop (n - r) b) same in
     let near : distance a b ≤ length (drop (n - r) a) = rw (take-append-drop, parts_b) at close in
     IsCodeword-close n r a b short code_a.codeword code_b.codeword (omega (arith, length-drop (n - r) a))

@@ -229,12 +229,12 @@ register_bytes-same (suc k) a b below_a below_b same =
     let upper_a : a / 2 ^ 8 < 2 ^ (8 * k) = shr_below a (8 * k) 8 (rw (← more) below_a) in
     let upper_b : b / 2 ^ 8 < 2 ^ (8 * k) = shr_below b (8 * k) 8 (rw (← more) below_b) in
     let both : register_bytes k (a / 256) ++ a % 256 ∷ [] ≡ register_bytes k (b / 256) ++ b % 256 ∷ [] = sym (register_bytes-last k a) ∙ same ∙ register_bytes-last k b in
-    let fronts : register_bytes k (a / 256) ≡ register_bytes k (b / 256) =
+    let prefixes : register_bytes k (a / 256) ≡ register_bytes k (b / 256) =
     sym (take_at (register_bytes k (a / 256)) (a % 256 ∷ []) k (length-register_bytes k (a / 256)))
     ∙ ap (take k) both ∙ take_at (register_bytes k (b / 256)) (b % 256 ∷ []) k (length-register_bytes k (b / 256)) in
-    let ends : a % 256 ∷ [] ≡ b % 256 ∷ [] = append_cancel_left (register_bytes k (a / 256)) (a % 256 ∷ []) (b % 256 ∷ []) (both ∙ ap (λ xs. xs ++ b % 256 ∷ []) (sym fronts)) in
+    let ends : a % 256 ∷ [] ≡ b % 256 ∷ [] = append_cancel_left (register_bytes k (a / 256)) (a % 256 ∷ []) (b % 256 ∷ []) (both ∙ ap (λ xs. xs ++ b % 256 ∷ []) (sym prefixes)) in
     let lowest : a % 256 ≡ b % 256 = cc in
-    let upper : a / 256 ≡ b / 256 = register_bytes-same k (a / 256) (b / 256) upper_a upper_b fronts in
+    let upper : a / 256 ≡ b / 256 = register_bytes-same k (a / 256) (b / 256) upper_a upper_b prefixes in
     omega arith
 
 -- the entry of a sum is the sum of the entries

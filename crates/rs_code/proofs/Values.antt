@@ -23,8 +23,8 @@ value-byte [] x = rw value-nil (omega arith)
 value-byte (byte ∷ rest) x = rw value-cons (plus-byte _ _ (product-byte byte (power x (length rest))) (value-byte rest x))
 
 -- a first byte before two joined words, multiplied out
-one_more : (c front back v w : ℕ) → plus (product c (product front back)) (plus (product v back) w) ≡ plus (product (plus (product c front) v) back) w
-one_more c front back v w = simp ring
+one_more : (c first back v w : ℕ) → plus (product c (product first back)) (plus (product v back) w) ≡ plus (product (plus (product c first) v) back) w
+one_more c first back v w = simp ring
 
 -- a word before another counts as often as the power of x by the other's length
 pub value-append : (a b : List ℕ) (x : ℕ) → value (a ++ b) x ≡ plus (product (value a x) (power x (length b))) (value b x)

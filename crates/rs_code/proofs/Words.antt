@@ -15,10 +15,10 @@ use Rattle.rs_code.proofs.Registers.{HoldsRemainder, after_byte-sum, after_byte-
 use Rattle.rs_code.proofs.Ring.{ring}
 
 -- the register after two lists of bytes is the one after the first, and then the second
-pub after_bytes-append : (table : List ℕ) (n : ℕ) (front back : List ℕ) → after_bytes table n (front ++ back) ≡ after_bytes table (after_bytes table n front) back
+pub after_bytes-append : (table : List ℕ) (n : ℕ) (prefix back : List ℕ) → after_bytes table n (prefix ++ back) ≡ after_bytes table (after_bytes table n prefix) back
 unfolding after_bytes
 after_bytes-append table n [] back = refl
-after_bytes-append table n (byte ∷ front) back = after_bytes-append table (after_byte table n byte) front back
+after_bytes-append table n (byte ∷ prefix) back = after_bytes-append table (after_byte table n byte) prefix back
 
 -- the remainder after more bytes
 pub HoldsRemainder-bytes : (generator read table bytes : List ℕ) (n : ℕ)
@@ -216,8 +216,8 @@ words_more table words start now next i rest inside read before =
 pub words_done : (table : List ℕ) (words : List (List ℕ)) (start now i : ℕ) (rest : List ℕ) → length words ≤ i
     → after_bytes table now (concat (drop i words) ++ rest) ≡ after_bytes table start (concat words ++ rest)
     → after_bytes table now rest ≡ after_bytes table start (concat words ++ rest)
-words_done table words start now i rest behind before =
-    sym (ap (λ l. after_bytes table now (concat l ++ rest)) (drop_of_length-le words behind)) ∙ before
+words_done table words start now i rest past before =
+    sym (ap (λ l. after_bytes table now (concat l ++ rest)) (drop_of_length-le words past)) ∙ before
 
 -- the whole words and the bytes after them, joined, are all the bytes
 pub words_joined : (count : ℕ) (bytes : List ℕ) → concat (first_chunks 4 count bytes) ++ drop (count * 4) bytes ≡ bytes
@@ -237,9 +237,9 @@ pub message_read : (table message others : List ℕ) (words : List (List ℕ)) (
     → after_bytes table register [] ≡ after_bytes table middle (others ++ [])
     → register ≡ after_bytes table 0 message
 unfolding after_bytes
-message_read table message others words middle register are_words are_others front back =
+message_read table message others words middle register are_words are_others prefix back =
     let joined : concat words ++ (others ++ []) ≡ message = rw (append-nil others, are_words, are_others) (words_joined (length message / 4) message) in
-    back ∙ front ∙ ap (after_bytes table 0) joined
+    back ∙ prefix ∙ ap (after_bytes table 0) joined
 
 -- what is written of the register after a message is its remainder
 pub written_remainder : (generator message parity others : List ℕ) (tables words : List (List ℕ)) (middle register size : ℕ)
@@ -248,8 +248,8 @@ pub written_remainder : (generator message parity others : List ℕ) (tables wor
     → after_bytes (get_or tables 0 []) middle (others ++ []) ≡ after_bytes (get_or tables 0 []) 0 (concat words ++ (others ++ []))
     → after_bytes (get_or tables 0 []) register [] ≡ after_bytes (get_or tables 0 []) middle (others ++ [])
     → parity ≡ take size (register_bytes 16 register) → IsRemainder generator message parity
-written_remainder generator message parity others tables words middle register size some fits long are bytes are_words are_others front back written =
+written_remainder generator message parity others tables words middle register size some fits long are bytes are_words are_others prefix back written =
     let table = get_or tables 0 [] in
-    let read : register ≡ after_bytes table 0 message = message_read table message others words middle register are_words are_others front back in
+    let read : register ≡ after_bytes table 0 message = message_read table message others words middle register are_words are_others prefix back in
     let held = HoldsRemainder-bytes generator [] table message 0 (omega arith) bytes are.words (omega arith) are.multiples (HoldsRemainder-start generator (omega arith)) in
     rw (written, read, ← long) held.remainder

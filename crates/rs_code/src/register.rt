@@ -74,9 +74,9 @@ fn with_word(tables: &[[u128; 256]; 4], register: u128, word: [u8; 4]) -> u128
         → after_bytes (slice_index_or tables.now 0 []) result rest ≡ after_bytes (slice_index_or tables.now 0 []) register (word ++ rest) }
 {
     let [first, second, third, fourth] = ((register >> 96) as u32).to_be_bytes();
-    let front = tables[3][(first ^ word[0]) as usize] ^ tables[2][(second ^ word[1]) as usize];
+    let upper = tables[3][(first ^ word[0]) as usize] ^ tables[2][(second ^ word[1]) as usize];
     let back = tables[1][(third ^ word[2]) as usize] ^ tables[0][(fourth ^ word[3]) as usize];
-    (register << 32) ^ front ^ back
+    (register << 32) ^ upper ^ back
 }
 
 /// One step of the division: reads one more byte. The upper byte leaves. Its sum with the byte that is read says which

@@ -21,7 +21,7 @@ impl Drawn {
         self.state.to_be_bytes()[0]
     }
 
-    fn fill_front(&mut self, bytes: &mut [u8], count: usize) {
+    fn fill_first(&mut self, bytes: &mut [u8], count: usize) {
         for byte in bytes.iter_mut().take(count) {
             *byte = self.byte();
         }
@@ -33,7 +33,7 @@ fn parity_digest<const N: usize, const R: usize>(code: &Code<N, R>, drawn: &mut 
     let mut hasher = Sha256::new();
     for _k in 0..100 {
         let mut word = [0; N];
-        drawn.fill_front(&mut word, N - R);
+        drawn.fill_first(&mut word, N - R);
         code.encode(&mut word);
         let bytes = &word[..];
         hasher.update(&bytes[N - R..]);
@@ -85,7 +85,7 @@ fn encodes_drawn_words(rt: HostRuntime) {
 }
 
 #[test]
-fn tells_syndromes_and_codewords(rt: HostRuntime) {
+fn knows_syndromes_and_codewords(rt: HostRuntime) {
     let id = Ied::new();
     assert_eq!(rt;
         id.syndromes(&[1, 2, 3, 4, 5, 6]).as_slice(),

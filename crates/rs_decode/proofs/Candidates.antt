@@ -36,8 +36,8 @@ at_start taps seq lanes are k below =
 -- 1 has the list itself for its connections
 connection-start : (seq lanes : List ℕ) → ((k : ℕ) → k < length seq → get_or seq k 0 < 256) → take (length seq) lanes ≡ seq → (k : ℕ) → k < length seq
     → get_or lanes k 0 ≡ connection k (1 ∷ replicate 32 0) seq k
-connection-start seq lanes bytes front k below =
-    sym (get_or-take (length seq) lanes k 0 below) ∙ ap (λ xs. get_or xs k 0) front
+connection-start seq lanes bytes first_lanes k below =
+    sym (get_or-take (length seq) lanes k 0 below) ∙ ap (λ xs. get_or xs k 0) first_lanes
     ∙ sym (one-product (get_or seq k 0) (bytes k below)) ∙ sym (connection-first (1 ∷ replicate 32 0) seq k zeros-start)
 
 -- and x the list, moved up by a place
@@ -127,8 +127,8 @@ taps_scaled factor taps multiples byte size is =
     rw (scaled-cons factor 1 taps, product-one factor byte, rest) refl
 
 -- with a byte in front each number is one place later
-pub get_or-behind : (first : ℕ) (lanes : List ℕ) (k : ℕ) → get_or (first ∷ lanes) (k + 1) 0 ≡ get_or lanes k 0
-get_or-behind first lanes k = rw (add-one k) refl
+pub get_or-after : (first : ℕ) (lanes : List ℕ) (k : ℕ) → get_or (first ∷ lanes) (k + 1) 0 ≡ get_or lanes k 0
+get_or-after first lanes k = rw (add-one k) refl
 
 -- at place n: the register at hand, the earlier one, which fails there by 1, and the connections of both from there on
 pub record IsAt (n len : ℕ) (taps earlier seq connections others : List ℕ) : Type 0 where
@@ -147,10 +147,10 @@ pub record IsLeft (n len first : ℕ) (taps earlier seq connections others : Lis
 pub IsAt-start : (earlier seq lanes moved : List ℕ) → length seq ≤ 32 → ((k : ℕ) → k < length seq → get_or seq k 0 < 256) → take (length seq) lanes ≡ seq
     → HasLanes earlier (λ k. get_or {A = ℕ} (1 ∷ replicate 32 0) k 0) → HasLanes moved (λ k. get_or (0 ∷ lanes) k 0)
     → IsAt 0 0 (replicate 32 0) earlier seq lanes moved
-IsAt-start earlier seq lanes moved few bytes front is_x is_moved =
+IsAt-start earlier seq lanes moved few bytes first_lanes is_x is_moved =
     let tap : (k : ℕ) → k + 1 < 33 → get_or (0 ∷ earlier) (k + 1) 0 ≡ get_or {A = ℕ} (1 ∷ replicate 32 0) k 0 = λ k below.
-    get_or-behind 0 earlier k ∙ is_x.each k (omega arith) in
-    let are = connection-start seq lanes bytes front in
+    get_or-after 0 earlier k ∙ is_x.each k (omega arith) in
+    let are = connection-start seq lanes bytes first_lanes in
     record {
       shortest = IsShortestTo-start seq;
       fails = FailsAt-start (0 ∷ earlier) seq (ap suc is_x.size) tap;
@@ -166,7 +166,7 @@ IsAt-next n len first taps earlier seq connections others down up few inside is_
     let leaves = left.leaves in
     let reach : n + 1 - len + 1 ≡ n + 1 + 1 - len = omega (arith, leaves.0.within) in
     let tap : (k : ℕ) → k + 1 < 33 → get_or (0 ∷ up) (k + 1) 0 ≡ get_or (first ∷ earlier) k 0 = λ k below.
-    get_or-behind 0 up k ∙ is_up.each k (omega arith) in
+    get_or-after 0 up k ∙ is_up.each k (omega arith) in
     record {
       shortest = leaves.0;
       fails = subst (λ r. FailsAt (n + 1) r 1 (0 ∷ up) seq) reach

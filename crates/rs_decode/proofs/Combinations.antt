@@ -15,7 +15,7 @@ use Rattle.rs_decode.specs.Inner.Locator.{at_points}
 use Rattle.rs_decode.specs.Register.{total, connection}
 use Rattle.rs_decode.specs.Inner.Sums.{AreSums}
 use Rattle.rs_decode.proofs.Connections.{connection-total}
-use Rattle.rs_decode.proofs.Totals.{total-front, total-none, total-same}
+use Rattle.rs_decode.proofs.Totals.{total-head, total-none, total-same}
 
 -- with a factor for each byte there are as many bytes as before
 pub length-at_points : (f : ℕ → ℕ) (bytes points : List ℕ) → length bytes ≡ length points → length (at_points f bytes points) ≡ length bytes
@@ -91,7 +91,7 @@ total-sums [] sums bytes points k fits are =
 total-sums (c ∷ cs) sums bytes points k fits are =
     let f : ℕ → ℕ = λ i. product (get_or (c ∷ cs) i 0) (get_or sums (k + length (c ∷ cs) - suc i) 0) in
     let last : k + length (c ∷ cs) - 1 ≡ k + length cs = omega arith in
-    total-front (length cs) f
+    total-head (length cs) f
     ∙ ap (λ j. plus (product c (get_or sums j 0)) (total (length cs) (λ i. f (suc i)))) last
     ∙ ap (λ s. plus (product c s) (total (length cs) (λ i. f (suc i)))) (sym (are.sums_are (k + length cs) (omega arith)))
     ∙ ap (plus (product c (power_sum bytes points (k + length cs))))

@@ -9,7 +9,7 @@ use Rattle.rs_code.specs.Inner.PowerSums.{AreDistinct, power_sum}
 use Rattle.rs_decode.specs.Register.{total}
 use Rattle.rs_decode.specs.Inner.Inverse.{HasSums, IsInverse, row_sum}
 use Rattle.rs_decode.proofs.Roots.{no_coefficient}
-use Rattle.rs_decode.proofs.Totals.{total-byte, total-exchange, total-front, total-none, total-plus, total-product, total-same, total-single}
+use Rattle.rs_decode.proofs.Totals.{total-byte, total-exchange, total-head, total-none, total-plus, total-product, total-same, total-single}
 
 -- sums of multiples, each times a factor, by the multiples' own factors
 exchanged : (n m : ℕ) (f h : ℕ → ℕ) (g : ℕ → ℕ → ℕ)
@@ -56,7 +56,7 @@ power_sum-total [] (point ∷ points) k same = absurd (omega arith)
 power_sum-total (byte ∷ bytes) [] k same = absurd (omega arith)
 power_sum-total (byte ∷ bytes) (point ∷ points) k same =
     ap (plus (product byte (power point k))) (power_sum-total bytes points k (omega arith))
-    ∙ sym (total-front (length points) (λ i. product (get_or (byte ∷ bytes) i 0) (power (get_or (point ∷ points) i 0) k)))
+    ∙ sym (total-head (length points) (λ i. product (get_or (byte ∷ bytes) i 0) (power (get_or (point ∷ points) i 0) k)))
 
 -- the bytes that the columns make of sums have these power sums
 pub power_sum-made : (points bytes : List ℕ) (columns : List (List ℕ)) (f : ℕ → ℕ) (k : ℕ) → HasSums points columns → length bytes ≡ length points

@@ -114,8 +114,8 @@ IsPolynomial-none count lanes others f polynomial =
     }
 
 -- one factor in front of a product
-in_front : (d f p : ℕ) → product d (product f p) ≡ product f (product p d)
-in_front d f p = simp ring
+factor_first : (d f p : ℕ) → product d (product f p) ≡ product f (product p d)
+factor_first d f p = simp ring
 
 -- one point more
 pub IsPolynomial-next : (count i : ℕ) (lanes next others : List ℕ) (f : ℕ → ℕ) → i < length others → count + length others ≤ 32 → length next ≡ 32
@@ -134,7 +134,7 @@ IsPolynomial-next count i lanes next others f inside few next_size all next_all 
           ap (λ m. value (take m next) x) (sym longer)
           ∙ value-times_distance lanes next a x n (omega arith) before.size next_size all next_all first each
           ∙ rw (before.values x, before.zeros n (omega arith)) (plus-zero (product (plus x a) (product (f x) used)))
-          ∙ in_front (plus x a) (f x) used
+          ∙ factor_first (plus x a) (f x) used
           ∙ ap (product (f x)) (sym (ap (λ xs. distances xs x) (take_more others i 0 inside) ∙ distances-push (take i others) a x));
       zeros = λ k above.
           elim (cases_lt k 32) [

@@ -51,8 +51,8 @@ power_sum-lane bytes points i k e sum term inside within reaches so_far is_term 
     ap (plus sum) as_term ∙ ap (λ v. plus v here) so_far ∙ plus-comm rest here ∙ sym (power_sum-term bytes points i k inside within)
 
 -- the first lanes of a word's values are its syndromes
-pub syndromes_in_front : (r : ℕ) (word lanes items : List ℕ) → r ≤ 16 → HoldsLanes 16 lanes (λ k. value word (power alpha k)) → items ≡ take r lanes → items ≡ syndromes_of r word
-syndromes_in_front r word lanes items few holds are =
+pub syndromes_first : (r : ℕ) (word lanes items : List ℕ) → r ≤ 16 → HoldsLanes 16 lanes (λ k. value word (power alpha k)) → items ≡ take r lanes → items ≡ syndromes_of r word
+syndromes_first r word lanes items few holds are =
     let size = holds.size in
     let long : length items ≡ r = ap length are ∙ length-take-le r lanes (omega arith) in
     same_number_lists items (syndromes_of r word) (long ∙ sym (length-syndromes_of r word))

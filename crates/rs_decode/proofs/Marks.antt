@@ -110,8 +110,8 @@ place_of_mark-at [] place below is = absurd (omega arith)
 place_of_mark-at (true ∷ marks) zero below is = refl
 place_of_mark-at (false ∷ marks) zero below is = absurd (cc)
 place_of_mark-at (true ∷ marks) (suc place) below is =
-    let behind : 1 + marked (take place marks) ≡ suc (marked (take place marks)) = omega arith in
-    ap (place_of_mark (true ∷ marks)) behind ∙ ap suc (place_of_mark-at marks place (omega arith) is)
+    let past : 1 + marked (take place marks) ≡ suc (marked (take place marks)) = omega arith in
+    ap (place_of_mark (true ∷ marks)) past ∙ ap suc (place_of_mark-at marks place (omega arith) is)
 place_of_mark-at (false ∷ marks) (suc place) below is =
     ap (λ i. suc (place_of_mark marks i)) (zero-add (marked (take place marks))) ∙ ap suc (place_of_mark-at marks place (omega arith) is)
 

@@ -14,7 +14,7 @@ use Rattle.rs_code.proofs.Ring.{ring}
 use Rattle.rs_code.proofs.Values.{value-nil, value-cons}
 use Rattle.rs_code.specs.Inner.PowerSums.{AreDistinct}
 use Rattle.rs_decode.specs.Register.{total}
-use Rattle.rs_decode.proofs.Totals.{total-front, total-none, total-product, total-same}
+use Rattle.rs_decode.proofs.Totals.{total-head, total-none, total-product, total-same}
 
 -- the polynomial's value at x, the lowest power first
 polynomial_at : List ℕ → ℕ → ℕ
@@ -267,7 +267,7 @@ polynomial_at-values_of (suc n) f x bytes =
     ∙ sym (total-product n x next)
     ∙ total-same n (λ k. product x (next k)) (λ k. term (suc k)) (λ k below.
     sym (ap (product (f (suc k))) (power-suc x k) ∙ one_factor x (f (suc k)) (power x k))) in
-    ap (λ v. plus v (product x (polynomial_at (values_of n (λ k. f (suc k))) x))) first ∙ ap (plus (term 0)) rest ∙ sym (total-front n term)
+    ap (λ v. plus v (product x (polynomial_at (values_of n (λ k. f (suc k))) x))) first ∙ ap (plus (term 0)) rest ∙ sym (total-head n term)
 
 -- a polynomial that vanishes at as many points as it has coefficients has none but zeros
 pub no_coefficient : (n : ℕ) (f : ℕ → ℕ) (points : List ℕ) → AreDistinct points → All IsByte points → n ≤ length points → ((k : ℕ) → f k < 256)

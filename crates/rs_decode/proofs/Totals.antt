@@ -51,12 +51,12 @@ total-later n (suc more) f zeros =
     ∙ ap (λ x. plus x (f (n + more))) (total-later n more f zeros) ∙ sym (total-next more (λ i. f (n + i)))
 
 -- the first value by itself
-pub total-front : (n : ℕ) (f : ℕ → ℕ) → total (suc n) f ≡ plus (f 0) (total n (λ i. f (suc i)))
-total-front zero f =
+pub total-head : (n : ℕ) (f : ℕ → ℕ) → total (suc n) f ≡ plus (f 0) (total n (λ i. f (suc i)))
+total-head zero f =
     total-next 0 f ∙ ap (λ x. plus x (f 0)) (total-none f) ∙ zero-plus (f 0) ∙ sym (plus-zero (f 0))
     ∙ ap (plus (f 0)) (sym (total-none (λ i. f (suc i))))
-total-front (suc n) f =
-    total-next (suc n) f ∙ ap (λ x. plus x (f (suc n))) (total-front n f)
+total-head (suc n) f =
+    total-next (suc n) f ∙ ap (λ x. plus x (f (suc n))) (total-head n f)
     ∙ plus-assoc (f 0) (total n (λ i. f (suc i))) (f (suc n))
     ∙ ap (plus (f 0)) (sym (total-next n (λ i. f (suc i))))
 

@@ -22,7 +22,7 @@ pub fn add_lanes(bytes: &mut [u8], at: usize, lanes: u8x16)
 
 /// The lanes of a vector that begins with a list. The others are zeros. So lists of different lengths have the one form
 /// that vectors read.
-pub fn in_front<const N: usize>(list: &[u8]) -> [u8; N]
+pub fn as_prefix<const N: usize>(list: &[u8]) -> [u8; N]
     requires { length list.now ≤ N }
     ensures { take (length list.now) result ≡ list.now }
 {

@@ -7,7 +7,7 @@ ghost use Rattle.rs_code.specs.Syndromes.{syndromes_of};
 ghost use Rattle.coding.specs.Filling.{IsFilling, HasNoFilling, marked};
 
 use crate::places::{Erasures, patch};
-use crate::syndromes::{front, power_sums, syndromes};
+use crate::syndromes::{first_lanes, power_sums, syndromes};
 use arrayvec::ArrayVec;
 use rs_code::Code;
 use thiserror::Error;
@@ -83,7 +83,7 @@ fn completes<const N: usize, const R: usize>(
     ensures { IsTrue result ↔ IsCodeword N R filled.now }
 {
     if R <= 16 {
-        let sums = front(power_sums(points, bytes), R);
+        let sums = first_lanes(power_sums(points, bytes), R);
         return sums[..] == syndromes[..];
     }
     code.is_codeword(filled)

@@ -9,7 +9,7 @@ ghost use Rattle.rs_decode.specs.Errors.{HasNoneNear, error_count};
 ghost use Rattle.coding.specs.Filling.{marked};
 
 use crate::erasures::{NoCodeword, fill_from};
-use crate::locating::{count_errors, mark_zeros, sums_without, tell_bytes};
+use crate::locating::{count_errors, mark_zeros, prove_bytes, sums_without};
 use crate::places::Erasures;
 use crate::register::shortest;
 use crate::syndromes::{are_zeros, syndromes};
@@ -68,7 +68,7 @@ pub fn decode_from<const N: usize, const R: usize>(
     ensures same { OnErr result (word.new ≡ word.old) }
 {
     // For the prover: nothing else says that the elements of this array are bytes.
-    tell_bytes(word);
+    prove_bytes(word);
     let erased = erasures.points.len();
     // The caller may have allowed more marks than this code corrects.
     if erased > R {

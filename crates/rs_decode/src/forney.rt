@@ -14,7 +14,7 @@ ghost use Rattle.rs_lanes.specs.Inner.Lanes.{HasLanes};
 ghost use Rattle.rs_decode.specs.Inner.Locator.{at_points, distances, slope};
 ghost use Rattle.rs_decode.specs.Inner.Sums.{AreOnly, AreSums};
 
-use crate::combining::{in_front, moved_up};
+use crate::combining::{as_prefix, moved_up};
 use arrayvec::ArrayVec;
 use gf_field::{alpha_pow, div, log, mul};
 use rs_lanes::with_multiple;
@@ -79,7 +79,7 @@ fn evaluator(points: &[u8], sums: &[u8]) -> u8x32
     ensures values { (bytes : List ℕ) → AreSums points.now bytes sums.now
         → (x : ℕ) → value (take (length points.now) result) x ≡ power_sum (at_points (slope points.now x) bytes points.now) points.now 0 }
 {
-    let mut lanes = u8x32::from_array(in_front(sums));
+    let mut lanes = u8x32::from_array(as_prefix(sums));
     for point in points {
         lanes = times_distance(lanes, *point);
     }

@@ -13,7 +13,7 @@ ghost use Rattle.rs_lanes.specs.Inner.Lanes.{HoldsLanes};
 ghost use Rattle.rs_decode.specs.Inner.Sums.{AreOnly};
 
 use crate::forney::{derivative, times_distance};
-use crate::syndromes::front;
+use crate::syndromes::first_lanes;
 use arrayvec::ArrayVec;
 use gf_field::inv;
 use rs_lanes::scaled;
@@ -54,7 +54,7 @@ impl Inverse {
         ensures { AreOnly self.now.points.items sums.now result.items }
     {
         let count = self.points.len();
-        front(combined(&self.columns, &sums[..count]), count)
+        first_lanes(combined(&self.columns, &sums[..count]), count)
     }
 }
 

@@ -9,7 +9,7 @@ ghost use Rattle.rs_decode.specs.Inner.Locator.{at_points, distances, with_zeros
 ghost use Rattle.rs_decode.specs.Inner.Sums.{AreSums};
 
 use crate::sums::without_points;
-use crate::syndromes::front;
+use crate::syndromes::first_lanes;
 use crate::values::values_at_powers;
 use arrayvec::ArrayVec;
 use gf_field::mul;
@@ -29,7 +29,7 @@ pub fn sums_without(points: &[u8], sums: &[u8]) -> ArrayVec<u8, 32>
     }
     // One vector has room for the sums of the codes of a block.
     if sums.len() <= 16 {
-        return front(without_points(points, sums), sums.len() - points.len());
+        return first_lanes(without_points(points, sums), sums.len() - points.len());
     }
     // The list has room for as many sums as there may be. It keeps those of the caller as they are.
     let mut left: ArrayVec<u8, 32> = ArrayVec::try_from(sums).unwrap();
@@ -83,6 +83,6 @@ pub fn count_errors(received: &[u8], word: &[u8], marks: &[bool]) -> u16
 
 /// Ensures that the elements of a word are bytes. It does nothing: the checker knows this of a slice, and not of an
 /// array.
-pub fn tell_bytes(word: &[u8])
+pub fn prove_bytes(word: &[u8])
     ensures { All IsByte word.now }
 {}

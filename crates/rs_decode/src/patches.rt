@@ -13,7 +13,7 @@ ghost use Rattle.rs_decode.specs.Inner.Places.{ArePlaces};
 ghost use Rattle.rs_decode.specs.Patches.{Completes, patched};
 
 use crate::inverse::Inverse;
-use crate::locating::tell_bytes;
+use crate::locating::prove_bytes;
 use crate::places::Erasures;
 use gf_field::log;
 use rs_lanes::{any_of, powers, with_multiple};
@@ -76,7 +76,7 @@ impl Patches {
             return false;
         }
         self.add_to(&erasures.places[..count], n, word);
-        tell_bytes(word);
+        prove_bytes(word);
         true
     }
 

@@ -9,7 +9,7 @@ ghost use Rattle.coding.specs.Field.{plus, product};
 ghost use Rattle.rs_lanes.specs.Inner.Lanes.{HasLanes};
 ghost use Rattle.rs_decode.specs.Register.{Generates, IsLeast};
 
-use crate::combining::{in_front, moved_up};
+use crate::combining::{as_prefix, moved_up};
 use arrayvec::ArrayVec;
 use gf_field::inv;
 use rs_lanes::{multiple, store, with_multiple};
@@ -46,7 +46,7 @@ pub fn shortest(seq: &[u8]) -> Register
     // Of length 0, it fails by each number itself.
     let mut register = Candidate {
         taps: u8x32::splat(0),
-        connections: u8x32::from_array(in_front(seq)),
+        connections: u8x32::from_array(as_prefix(seq)),
     };
     // The register from before the length last changed, shifted to fail at the place at hand, and multiplied to fail by
     // 1. While the length is 0 there is none, and x takes its place.

@@ -7,7 +7,7 @@ ghost use Rattle.coding.specs.Field.{plus, product};
 ghost use Rattle.rs_decode.specs.Inner.Locator.{at_points, distances};
 ghost use Rattle.rs_decode.specs.Inner.Sums.{AreSums};
 
-use crate::combining::in_front;
+use crate::combining::as_prefix;
 use rs_lanes::scaled;
 use std::simd::prelude::*;
 
@@ -20,7 +20,7 @@ pub fn without_points(points: &[u8], sums: &[u8]) -> u8x16
     ensures are { (places bytes : List ℕ) → AreSums places bytes sums.now
         → AreSums places (at_points (distances points.now) bytes places) (take (length sums.now - length points.now) result) }
 {
-    let mut left = u8x16::from_array(in_front(sums));
+    let mut left = u8x16::from_array(as_prefix(sums));
     for point in points {
         left = without(left, *point);
     }

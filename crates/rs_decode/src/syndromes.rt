@@ -28,9 +28,9 @@ pub fn syndromes<const N: usize, const R: usize>(
     // The codes of an ECC block divide by tables, which is shorter than to go over the whole word lane by lane. The
     // remainder has the word's values.
     if R == 10 || R == 16 {
-        return front(values(&code.remainder(word)), R);
+        return first_lanes(values(&code.remainder(word)), R);
     }
-    front(values(word), R)
+    first_lanes(values(word), R)
 }
 
 /// Whether all numbers are 0.
@@ -46,7 +46,7 @@ pub fn are_zeros(numbers: &[u8]) -> bool
 }
 
 /// The first lanes of a vector, as a list. They are at most sixteen, which always fit.
-pub fn front(lanes: u8x16, count: usize) -> ArrayVec<u8, 32>
+pub fn first_lanes(lanes: u8x16, count: usize) -> ArrayVec<u8, 32>
     requires lanes { length lanes ≡ 16 }
     requires few { count ≤ 16 }
     ensures { result.items ≡ take count lanes }

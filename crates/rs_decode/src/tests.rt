@@ -142,7 +142,7 @@ impl Drawn {
         (self.number() % bound as u64) as usize
     }
 
-    fn fill_front(&mut self, bytes: &mut [u8], count: usize) {
+    fn fill_first(&mut self, bytes: &mut [u8], count: usize) {
         for byte in bytes.iter_mut().take(count) {
             *byte = self.byte();
         }
@@ -179,7 +179,7 @@ fn answers_digest<const N: usize, const R: usize>(
     let mut hasher = Sha256::new();
     for _k in 0..300 {
         let mut word = [0; N];
-        drawn.fill_front(&mut word, N - R);
+        drawn.fill_first(&mut word, N - R);
         code.encode(&mut word);
         let mut marks = [false; N];
         drawn.damage(&mut word, &mut marks, R);
@@ -334,7 +334,7 @@ fn patches_all_words_with_up_to_sixteen_marks(rt: HostRuntime) {
 
 /// Words with an error more are found, whichever lane they are in.
 #[test]
-fn tells_words_that_are_not_patched(rt: HostRuntime) {
+fn names_words_that_are_not_patched(rt: HostRuntime) {
     let mut marks = [false; 208];
     marks[100] = true;
     let mut values = drawn_values(&mut Drawn { state: 10 }, &marks);

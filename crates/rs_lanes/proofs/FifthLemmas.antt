@@ -178,15 +178,15 @@ pub all_exponents : (P : ℕ → ℕ → Type 0) (count : ℕ)
     → ((m : ℕ) → m < 5 → exponent_at 2 m < count → P 2 (exponent_at 2 m))
     → (k : ℕ) → k < 15 → k < count → P (k % 3) k
 all_exponents P count p0 p1 p2 k below inside =
-    let told : (i m : ℕ) → k % 3 ≡ i → exponent_at i m ≡ k → (exponent_at i m < count → P i (exponent_at i m)) → P (k % 3) k = λ i m rest is p.
+    let said : (i m : ℕ) → k % 3 ≡ i → exponent_at i m ≡ k → (exponent_at i m < count → P i (exponent_at i m)) → P (k % 3) k = λ i m rest is p.
     subst (λ r. P r k) (sym rest) (subst (P i) is (p (subst (λ e. e < count) (sym is) inside))) in
     elim (cases_eq (k % 3) 0) [
-      | inl none ↦ told 0 (k / 3) none (omega arith) (p0 (k / 3) (omega arith))
+      | inl none ↦ said 0 (k / 3) none (omega arith) (p0 (k / 3) (omega arith))
       | inr some ↦
           elim (cases_eq (k % 3) 1) [
-            | inl one ↦ told 1 ((k + 5) / 3 % 5) one (omega arith) (p1 ((k + 5) / 3 % 5) (omega arith))
+            | inl one ↦ said 1 ((k + 5) / 3 % 5) one (omega arith) (p1 ((k + 5) / 3 % 5) (omega arith))
             | inr more ↦
                 let two : k % 3 ≡ 2 = omega arith in
-                told 2 ((k + 10) / 3 % 5) two (omega arith) (p2 ((k + 10) / 3 % 5) (omega arith))
+                said 2 ((k + 10) / 3 % 5) two (omega arith) (p2 ((k + 10) / 3 % 5) (omega arith))
           ]
     ]

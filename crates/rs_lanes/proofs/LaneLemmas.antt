@@ -82,15 +82,15 @@ pub either-zero : (a b : ℕ) → (bit_or a b ≡ 0) ↔ ((a ≡ 0) × (b ≡ 0)
 either-zero a b = ((λ zero_is. (omega (arith, le_or_l a b), omega (arith, le_or_r a b))), (λ both. rw (both.0, both.1) (or_zero_r 0)))
 
 -- the first of several lanes, and those after it
-first_and_behind : (x : ℕ) (xs : List ℕ) → x ≡ 0 → ((k : ℕ) → k < length xs → get_or xs k 0 ≡ 0) → (k : ℕ) → k < length (x ∷ xs) → get_or (x ∷ xs) k 0 ≡ 0
-first_and_behind x xs first behind zero below = first
-first_and_behind x xs first behind (suc k) below = behind k (omega arith)
+first_and_rest : (x : ℕ) (xs : List ℕ) → x ≡ 0 → ((k : ℕ) → k < length xs → get_or xs k 0 ≡ 0) → (k : ℕ) → k < length (x ∷ xs) → get_or (x ∷ xs) k 0 ≡ 0
+first_and_rest x xs first past zero below = first
+first_and_rest x xs first past (suc k) below = past k (omega arith)
 
 -- all lanes of a vector joined, and a number before them, are zero where each is
 pub joined-zero : (a : ℕ) (lanes : List ℕ) → (fold_l bit_or a lanes ≡ 0) ↔ ((a ≡ 0) × ((k : ℕ) → k < length lanes → get_or lanes k 0 ≡ 0))
 joined-zero a [] = ((λ none. (none, λ k below. absurd (omega arith))), (λ both. both.0))
 joined-zero a (x ∷ xs) =
-    let behind = joined-zero (bit_or a x) xs in (
-      (λ none. (((either-zero a x).0 (behind.0 none).0).0, first_and_behind x xs ((either-zero a x).0 (behind.0 none).0).1 (behind.0 none).1)),
-      (λ both. behind.1 ((either-zero a x).1 (both.0, both.1 0 (omega arith)), λ k below. both.1 (suc k) (omega arith))),
+    let past = joined-zero (bit_or a x) xs in (
+      (λ none. (((either-zero a x).0 (past.0 none).0).0, first_and_rest x xs ((either-zero a x).0 (past.0 none).0).1 (past.0 none).1)),
+      (λ both. past.1 ((either-zero a x).1 (both.0, both.1 0 (omega arith)), λ k below. both.1 (suc k) (omega arith))),
     )

@@ -17,9 +17,9 @@ use Rattle.rs_code.proofs.Codewords.{IsEncoded-from_codeword}
 use Rattle.rs_code.proofs.Values.{value-append, value-sum_of, value-scaled, value-zeros, length-sum_of, get_or-sum_of, length-scaled, get_or-scaled}
 use Rattle.coding.specs.Rows.{line, place, column}
 use Rattle.rs_lanes.specs.Inner.Parity.{filled, IsBasis}
-use Rattle.rs_lanes.specs.Inner.Thirds.{behind_zeros}
+use Rattle.rs_lanes.specs.Inner.Thirds.{after_zeros}
 use Rattle.rs_lanes.proofs.ColumnLemmas.{length-column, get_or-column, same_columns}
-use Rattle.rs_lanes.proofs.ThirdLemmas.{get_or-behind_zeros_back}
+use Rattle.rs_lanes.proofs.ThirdLemmas.{get_or-after_zeros_back}
 
 -- ---- sums of multiples
 
@@ -183,8 +183,8 @@ get_or-filled size word k =
     ]
 
 -- a place of a filled word that comes after other zeros
-pub get_or-filled_back : (zeros size : ℕ) (word : List ℕ) (p : ℕ) → zeros ≤ p → get_or (behind_zeros zeros (filled size word)) p 0 ≡ get_or word (p - zeros) 0
-get_or-filled_back zeros size word p behind = get_or-behind_zeros_back zeros (filled size word) p behind ∙ get_or-filled size word (p - zeros)
+pub get_or-filled_back : (zeros size : ℕ) (word : List ℕ) (p : ℕ) → zeros ≤ p → get_or (after_zeros zeros (filled size word)) p 0 ≡ get_or word (p - zeros) 0
+get_or-filled_back zeros size word p farther = get_or-after_zeros_back zeros (filled size word) p farther ∙ get_or-filled size word (p - zeros)
 
 -- what is filled up with bytes had bytes
 pub filled-bytes : (size : ℕ) (word : List ℕ) → length word ≤ size → All IsByte (filled size word) → All IsByte word
@@ -211,11 +211,11 @@ encoded_by_values n r message parity size fits long bytes parity_bytes same =
       bytes = All-append IsByte message parity bytes parity_bytes;
       vanishes = λ k below.
           let x = power alpha k in
-          let behind : n - length message ≡ length parity = omega arith in
-          let front = product (value message x) (power x (length parity)) in
+          let farther : n - length message ≡ length parity = omega arith in
+          let first = product (value message x) (power x (length parity)) in
           value-append message parity x
-          ∙ ap (plus front) (same k below ∙ value-filled n message x ∙ ap (λ m. product (value message x) (power x m)) behind)
-          ∙ plus-self front;
+          ∙ ap (plus first) (same k below ∙ value-filled n message x ∙ ap (λ m. product (value message x) (power x m)) farther)
+          ∙ plus-self first;
     })
 
 -- a column whose parity's bytes stay is encoded still

@@ -1,5 +1,5 @@
 -- Words cut into pieces of one size that are added up (length-folded, get_or-folded_zero, get_or-folded_suc,
--- value-folded), zeros before a word (`behind_zeros`, zeros_in_front), and the thirds of words in 32 lanes (third-zero,
+-- value-folded), zeros before a word (`after_zeros`, zeros_in_front), and the thirds of words in 32 lanes (third-zero,
 -- third-one, third-two, each_of_three, HasThirds with thirds_more, thirds_bytes, `thirds_told`).
 use Rattle.std.proofs.Common.{◌≡◌, ℕ, zero, suc, ◌+◌, ◌-◌, ◌*◌, ◌/◌, ◌%◌, ◌<◌, ◌≤◌, List, [], length, get_or, set, take, drop, replicate, All, refl, sym, ap, subst, ◌∙◌, inl, inr, arith, length-append, length-take-le, length-set, get_or-take, get_or-drop, get_or-set_other}
 use Rattle.std.proofs.Math.ListN.{get_or-map}
@@ -17,7 +17,7 @@ use Rattle.rs_code.proofs.Ring.{ring}
 use Rattle.rs_code.proofs.Values.{value-append, value-sum_of, value-scaled, value-zeros, length-sum_of, get_or-sum_of, length-scaled, get_or-scaled, value-more}
 use Rattle.coding.specs.Rows.{line, place}
 use Rattle.rs_lanes.specs.Inner.Lanes.{HasLanes}
-use Rattle.rs_lanes.specs.Inner.Thirds.{behind_zeros, folded, third_byte, third, IsThird}
+use Rattle.rs_lanes.specs.Inner.Thirds.{after_zeros, folded, third_byte, third, IsThird}
 
 -- pieces that are added up have the size of one
 pub length-folded : (size factor : ℕ) (word : List ℕ) (i : ℕ) → size * i + size ≤ length word → length (folded size factor word i) ≡ size
@@ -96,30 +96,30 @@ value-fives_more x word q sum next long below byte is_sum is_next =
 -- ---- zeros in front
 
 -- a word with zeros in front is as long as both together
-pub length-behind_zeros : (count : ℕ) (word : List ℕ) → length (behind_zeros count word) ≡ count + length word
-unfolding behind_zeros
-length-behind_zeros count word = length-append (replicate {A = ℕ} count 0) word ∙ ap (λ n. n + length word) (length-replicate {A = ℕ} count 0)
+pub length-after_zeros : (count : ℕ) (word : List ℕ) → length (after_zeros count word) ≡ count + length word
+unfolding after_zeros
+length-after_zeros count word = length-append (replicate {A = ℕ} count 0) word ∙ ap (λ n. n + length word) (length-replicate {A = ℕ} count 0)
 
 -- a place of the zeros
-pub get_or-behind_zeros_front : (count : ℕ) (word : List ℕ) (p : ℕ) → p < count → get_or (behind_zeros count word) p 0 ≡ 0
-unfolding behind_zeros
-get_or-behind_zeros_front count word p under =
+pub get_or-after_zeros_front : (count : ℕ) (word : List ℕ) (p : ℕ) → p < count → get_or (after_zeros count word) p 0 ≡ 0
+unfolding after_zeros
+get_or-after_zeros_front count word p under =
     get_or_append_left (replicate {A = ℕ} count 0) word 0 p (omega (arith, length-replicate {A = ℕ} count 0)) ∙ get_or-replicate {A = ℕ} count p 0 0 under
 
 -- a lane of zeros is one of these places
-pub zeros_in_front : (count : ℕ) (word lanes : List ℕ) (p j : ℕ) → lanes ≡ replicate 32 0 → p < count → j < 32 → get_or lanes j 0 ≡ get_or (behind_zeros count word) p 0
-zeros_in_front count word lanes p j zeros under below =
-    ap (λ l. get_or l j 0) zeros ∙ get_or-replicate {A = ℕ} 32 j 0 0 below ∙ sym (get_or-behind_zeros_front count word p under)
+pub zeros_first : (count : ℕ) (word lanes : List ℕ) (p j : ℕ) → lanes ≡ replicate 32 0 → p < count → j < 32 → get_or lanes j 0 ≡ get_or (after_zeros count word) p 0
+zeros_first count word lanes p j zeros under below =
+    ap (λ l. get_or l j 0) zeros ∙ get_or-replicate {A = ℕ} 32 j 0 0 below ∙ sym (get_or-after_zeros_front count word p under)
 
 -- a place of the word after them
-pub get_or-behind_zeros_back : (count : ℕ) (word : List ℕ) (p : ℕ) → count ≤ p → get_or (behind_zeros count word) p 0 ≡ get_or word (p - count) 0
-unfolding behind_zeros
-get_or-behind_zeros_back count word p over = get_or-append_right (replicate {A = ℕ} count 0) word count p 0 (length-replicate {A = ℕ} count 0) over
+pub get_or-after_zeros_back : (count : ℕ) (word : List ℕ) (p : ℕ) → count ≤ p → get_or (after_zeros count word) p 0 ≡ get_or word (p - count) 0
+unfolding after_zeros
+get_or-after_zeros_back count word p over = get_or-append_right (replicate {A = ℕ} count 0) word count p 0 (length-replicate {A = ℕ} count 0) over
 
 -- zeros in front change no value
-pub value-behind_zeros : (count : ℕ) (word : List ℕ) (x : ℕ) → value (behind_zeros count word) x ≡ value word x
-unfolding behind_zeros
-value-behind_zeros count word x =
+pub value-after_zeros : (count : ℕ) (word : List ℕ) (x : ℕ) → value (after_zeros count word) x ≡ value word x
+unfolding after_zeros
+value-after_zeros count word x =
     value-append (replicate {A = ℕ} count 0) word x ∙ rw (value-zeros count x, zero-product, zero-plus) refl
 
 -- ---- thirds
@@ -192,12 +192,12 @@ each_of_three P p0 p1 p2 (suc (suc (suc i))) below = absurd (omega arith)
 
 -- a third whose places are the pieces' sums has the word's values
 pub IsThird-folded : (zeros i : ℕ) (word sums : List ℕ) → zeros + length word ≡ 255 → length sums ≡ 85
-    → ((q : ℕ) → q < 85 → get_or sums q 0 ≡ get_or (folded 85 (power alpha (85 * i)) (behind_zeros zeros word) 2) q 0)
+    → ((q : ℕ) → q < 85 → get_or sums q 0 ≡ get_or (folded 85 (power alpha (85 * i)) (after_zeros zeros word) 2) q 0)
     → IsThird i word sums
 IsThird-folded zeros i word sums whole size same =
-    let padded = behind_zeros zeros word in
+    let padded = after_zeros zeros word in
     let factor = power alpha (85 * i) in
-    let long : length padded ≡ 255 = length-behind_zeros zeros word ∙ whole in
+    let long : length padded ≡ 255 = length-after_zeros zeros word ∙ whole in
     let are : sums ≡ folded 85 factor padded 2 =
     same_number_lists sums (folded 85 factor padded 2) (size ∙ sym (length-folded 85 factor padded 2 (omega arith))) (λ q below. same q (omega arith)) in
     record {
@@ -209,7 +209,7 @@ IsThird-folded zeros i word sums whole size same =
           ∙ value-folded 85 x padded 2 (omega arith)
           ∙ ap (λ n. value (take n padded) x) (sym long)
           ∙ ap (λ w. value w x) (take-length padded)
-          ∙ value-behind_zeros zeros word x;
+          ∙ value-after_zeros zeros word x;
     }
 
 -- the place of a third is the one of its vectors
@@ -220,8 +220,8 @@ get_or-third thirds i j q = get_or-map (λ vectors. place vectors i j) thirds q 
 pub record HasThirds (zeros : ℕ) (word : ℕ → List ℕ) (to : ℕ) (thirds : List (List (List ℕ))) : Type 0 where
   pub size : length thirds ≡ 85
   pub set : (q i j : ℕ) → q < to → i < 3 → j < 32
-      → place (get_or thirds q []) i j ≡ get_or (folded 85 (power alpha (85 * i)) (behind_zeros zeros (word j)) 2) q 0
-  pub bytes : (q m j : ℕ) → q < to → m < 3 → j < 32 → get_or (behind_zeros zeros (word j)) (85 * m + q) 0 < 256
+      → place (get_or thirds q []) i j ≡ get_or (folded 85 (power alpha (85 * i)) (after_zeros zeros (word j)) 2) q 0
+  pub bytes : (q m j : ℕ) → q < to → m < 3 → j < 32 → get_or (after_zeros zeros (word j)) (85 * m + q) 0 < 256
 
 -- a place of the three pieces added up to one
 third_byte-folded : (i q a b c : ℕ) (padded : List ℕ) → length padded ≡ 255 → q < 85
@@ -238,29 +238,29 @@ pub thirds_more : (zeros : ℕ) (word : ℕ → List ℕ) (q : ℕ) (thirds : Li
     → q < 85
     → ((j : ℕ) → zeros + length (word j) ≡ 255)
     → HasThirds zeros word q thirds
-    → ((j : ℕ) → j < 32 → get_or a j 0 ≡ get_or (behind_zeros zeros (word j)) q 0)
-    → ((j : ℕ) → j < 32 → get_or b j 0 ≡ get_or (behind_zeros zeros (word j)) (85 + q) 0)
-    → ((j : ℕ) → j < 32 → get_or c j 0 ≡ get_or (behind_zeros zeros (word j)) (170 + q) 0)
+    → ((j : ℕ) → j < 32 → get_or a j 0 ≡ get_or (after_zeros zeros (word j)) q 0)
+    → ((j : ℕ) → j < 32 → get_or b j 0 ≡ get_or (after_zeros zeros (word j)) (85 + q) 0)
+    → ((j : ℕ) → j < 32 → get_or c j 0 ≡ get_or (after_zeros zeros (word j)) (170 + q) 0)
     → ((j : ℕ) → j < 32 → (get_or a j 0 < 256) × (get_or b j 0 < 256) × (get_or c j 0 < 256))
     → ((i : ℕ) → i < 3 → HasLanes (line three i) (λ j. third_byte i (get_or a j 0) (get_or b j 0) (get_or c j 0)))
     → HasThirds zeros word (q + 1) (set thirds q three)
 thirds_more zeros word q thirds a b c three inside whole has is_a is_b is_c bytes sums = record {
   size = length-set thirds q three ∙ has.size;
   set = λ p i j below third lane.
-      let long : length (behind_zeros zeros (word j)) ≡ 255 = length-behind_zeros zeros (word j) ∙ whole j in
+      let long : length (after_zeros zeros (word j)) ≡ 255 = length-after_zeros zeros (word j) ∙ whole j in
       let size = has.size in
       elim (cases_eq p q) [
         | inl same ↦
             ap (λ vectors. place vectors i j) (get_or-set_at thirds q p three [] same (omega arith))
             ∙ (sums i third).each j lane
-            ∙ third_byte-folded i q (get_or a j 0) (get_or b j 0) (get_or c j 0) (behind_zeros zeros (word j)) long inside (is_a j lane) (is_b j lane) (is_c j lane)
-            ∙ ap (λ n. get_or (folded 85 (power alpha (85 * i)) (behind_zeros zeros (word j)) 2) n 0) (sym same)
+            ∙ third_byte-folded i q (get_or a j 0) (get_or b j 0) (get_or c j 0) (after_zeros zeros (word j)) long inside (is_a j lane) (is_b j lane) (is_c j lane)
+            ∙ ap (λ n. get_or (folded 85 (power alpha (85 * i)) (after_zeros zeros (word j)) 2) n 0) (sym same)
         | inr apart ↦ ap (λ vectors. place vectors i j) (get_or-set_other thirds q p three [] apart) ∙ has.set p i j (omega arith) third lane
       ];
   bytes = λ p m j below third lane.
       elim (cases_eq p q) [
         | inl same ↦
-            let at = behind_zeros zeros (word j) in
+            let at = after_zeros zeros (word j) in
             let first : (n : ℕ) → n ≡ q → get_or at n 0 < 256 = λ n is. subst (λ k. get_or at k 0 < 256) (sym is) (subst (λ b. b < 256) (is_a j lane) (bytes j lane).0) in
             let second : (n : ℕ) → n ≡ 85 + q → get_or at n 0 < 256 = λ n is. subst (λ k. get_or at k 0 < 256) (sym is) (subst (λ b. b < 256) (is_b j lane) (bytes j lane).1) in
             let last : (n : ℕ) → n ≡ 170 + q → get_or at n 0 < 256 = λ n is. subst (λ k. get_or at k 0 < 256) (sym is) (subst (λ b. b < 256) (is_c j lane) (bytes j lane).2) in
@@ -280,9 +280,9 @@ thirds_bytes zeros word thirds j whole has lane =
     (λ i inside.
     let p = zeros + i in
     let at : 85 * (p / 85) + p % 85 ≡ p = omega arith in
-    let is : get_or (behind_zeros zeros (word j)) (85 * (p / 85) + p % 85) 0 ≡ get_or (word j) i 0 =
-    ap (λ n. get_or (behind_zeros zeros (word j)) n 0) at
-    ∙ get_or-behind_zeros_back zeros (word j) p (omega arith)
+    let is : get_or (after_zeros zeros (word j)) (85 * (p / 85) + p % 85) 0 ≡ get_or (word j) i 0 =
+    ap (λ n. get_or (after_zeros zeros (word j)) n 0) at
+    ∙ get_or-after_zeros_back zeros (word j) p (omega arith)
     ∙ ap (λ n. get_or (word j) n 0) (omega arith) in
     subst (λ b. b < 256) is (has.bytes (p % 85) (p / 85) j (omega arith) (omega arith) lane))
 

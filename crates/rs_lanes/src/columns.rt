@@ -13,7 +13,7 @@ ghost use Rattle.coding.specs.Words.{IsByte, IsEncoded, value};
 ghost use Rattle.coding.specs.Rows.{line, place, column};
 ghost use Rattle.rs_lanes.specs.Inner.Lanes.{HasLanes};
 ghost use Rattle.rs_lanes.specs.Inner.Parity.{filled};
-ghost use Rattle.rs_lanes.specs.Inner.Thirds.{behind_zeros, third, IsThird};
+ghost use Rattle.rs_lanes.specs.Inner.Thirds.{after_zeros, third, IsThird};
 
 use crate::lanes::{load, store};
 use crate::matrices::PO_MATRIX;
@@ -150,7 +150,7 @@ fn padded<T: Row>(rows: &[T], count: usize, at: usize, place: usize) -> u8x32
     requires rows { length rows.now ≡ count }
     requires place { place < 255 }
     ensures { (j : ℕ) → j < 32
-        → slice_index result j ≡ slice_index (behind_zeros 47 (filled 208 (column (map T.word rows.now) (at + j)))) place }
+        → slice_index result j ≡ slice_index (after_zeros 47 (filled 208 (column (map T.word rows.now) (at + j)))) place }
 {
     if place < 47 {
         u8x32::splat(0)

@@ -13,7 +13,7 @@ ghost use Rattle.coding.specs.Field.{alpha, power};
 ghost use Rattle.coding.specs.Words.{IsByte, IsEncoded, value};
 ghost use Rattle.coding.specs.Rows.{line, place, column};
 ghost use Rattle.rs_lanes.specs.Inner.Parity.{filled};
-ghost use Rattle.rs_lanes.specs.Inner.Thirds.{behind_zeros, third, IsThird};
+ghost use Rattle.rs_lanes.specs.Inner.Thirds.{after_zeros, third, IsThird};
 
 use crate::matrices::PI_MATRIX;
 use crate::parity::parity_of;
@@ -107,7 +107,7 @@ fn padded(transposed: &[u8x32; 182], count: usize, at: usize) -> u8x32
     requires count { count ≤ 182 }
     requires at { at < 255 }
     ensures { (n : ℕ) → n < 32
-        → slice_index result n ≡ slice_index (behind_zeros 73 (filled 182 (take count (column transposed.now n)))) at }
+        → slice_index result n ≡ slice_index (after_zeros 73 (filled 182 (take count (column transposed.now n)))) at }
 {
     if at < 73 {
         u8x32::splat(0)

@@ -25,7 +25,7 @@ impl Drawn {
         self.state.to_be_bytes()[0]
     }
 
-    fn fill_front(&mut self, bytes: &mut [u8], count: usize) {
+    fn fill_first(&mut self, bytes: &mut [u8], count: usize) {
         for byte in bytes.iter_mut().take(count) {
             *byte = self.byte();
         }
@@ -51,7 +51,7 @@ fn drawn_rows(
     let mut rows = empty_rows(alloc, count)?;
     let mut drawn = Drawn { state };
     for row in rows.iter_mut() {
-        drawn.fill_front(row, size);
+        drawn.fill_first(row, size);
     }
     Ok(rows)
 }
@@ -164,7 +164,7 @@ fn columns_get_the_parity_of_drawn_words(rt: HostRuntime) -> Result<(), Fail> {
     let mut drawn = Drawn { state: 3 };
     for j in 0..100 {
         let mut word = [0; 208];
-        drawn.fill_front(&mut word, 192);
+        drawn.fill_first(&mut word, 192);
         put_column(&mut rows, j, &word);
     }
     let mut encoded = column(&rows, 99);
@@ -233,7 +233,7 @@ fn lanes_are_powers(rt: HostRuntime) -> Result<(), Fail> {
 /// A byte that isn't 0 shows in the lane of its own row, and of its own column, and in no other: at each row, and at
 /// each place of a row.
 #[test]
-fn a_byte_at_any_place_is_told(rt: HostRuntime) -> Result<(), Fail> {
+fn a_wrong_byte_at_any_place_is_reported(rt: HostRuntime) -> Result<(), Fail> {
     let mut rows = empty_rows(rt.alloc(), 208)?;
     for place in 0..208 {
         let j = place % 182;

@@ -22,9 +22,9 @@ use Rattle.dvd_commands.specs.Laws.{CapturedFramesAreAssembled}
 use Rattle.dvd_commands.proofs.BlockFrames.{line-frames_of}
 
 -- the first six bytes of a data frame, one by one
-front_byte : (word : ℕ) (cpr : List ℕ) (rule : Rule) (main : List ℕ) (p : ℕ) → p < 6
+prefix_byte : (word : ℕ) (cpr : List ℕ) (rule : Rule) (main : List ℕ) (p : ℕ) → p < 6
     → get_or (data_frame word cpr rule main) p 0 ≡ get_or (word_bytes word ++ ied_of word) p 0
-front_byte word cpr rule main p few =
+prefix_byte word cpr rule main p few =
     let six : List ℕ = word_bytes word ++ ied_of word in
     let head : List ℕ = frame_head word cpr in
     let size : length six ≡ 6 = length-append (word_bytes word) (ied_of word) ∙ ap (λ n. 4 + n) (length-ied_of word) in
@@ -39,10 +39,10 @@ begins_so : (word : ℕ) (cpr : List ℕ) (rule : Rule) (main row : List ℕ) �
     → ((p : ℕ) → p < 172 → get_or row p 0 ≡ get_or (data_frame word cpr rule main) p 0) → take 6 row ≡ word_bytes word ++ ied_of word
 begins_so word cpr rule main row size holds =
     let six : length (word_bytes word ++ ied_of word) ≡ 6 = length-append (word_bytes word) (ied_of word) ∙ ap (λ n. 4 + n) (length-ied_of word) in
-    let front : length (take 6 row) ≡ 6 = length-take-le 6 row (omega (arith, size)) in
-    ext_get_or 0 (take 6 row) (word_bytes word ++ ied_of word) (front ∙ sym six)
-    (λ p within. let few : p < 6 = omega (arith, within, front) in
-    get_or-take 6 row p 0 few ∙ holds p (omega (arith, few)) ∙ front_byte word cpr rule main p few)
+    let prefix_size : length (take 6 row) ≡ 6 = length-take-le 6 row (omega (arith, size)) in
+    ext_get_or 0 (take 6 row) (word_bytes word ++ ied_of word) (prefix_size ∙ sym six)
+    (λ p within. let few : p < 6 = omega (arith, within, prefix_size) in
+    get_or-take 6 row p 0 few ∙ holds p (omega (arith, few)) ∙ prefix_byte word cpr rule main p few)
 
 -- the bytes of its first row
 first_row : (f : ℕ) (block : List (List ℕ)) (frame : List ℕ) → HoldsFrame f frame block → (p : ℕ) → p < 172 → get_or (line block (12 * f)) p 0 ≡ get_or frame p 0
@@ -55,15 +55,15 @@ first_row f block frame holds p few =
 -- a block that was mastered names its frames
 names : (layout : Layout) (cpr sectors : List ℕ) (k : ℕ) (entry : BlockPlan) (block : List (List ℕ)) → slice_get (plan_of layout DataOnly) k ≡ Some entry
     → IsBlockOf (frames_of layout entry cpr sectors) block → NamesItsFrames layout k block
-names layout cpr sectors k entry block stands is = record { product = is.product; named = named }
+names layout cpr sectors k entry block is_there is = record { product = is.product; named = named }
   where
     within : k < length (plan_of layout DataOnly)
-    within = slice_get_within (plan_of layout DataOnly) k entry stands
+    within = slice_get_within (plan_of layout DataOnly) k entry is_there
 
     word_is : (f : ℕ) → f < 16 → word_for layout k f ≡ word_of layout entry f
     word_is f below =
         word-at layout k f some_entry within below
-        ∙ ap (λ (e : BlockPlan). word_of layout e f) (get_or_from_slice_get (plan_of layout DataOnly) k entry some_entry stands)
+        ∙ ap (λ (e : BlockPlan). word_of layout e f) (get_or_from_slice_get (plan_of layout DataOnly) k entry some_entry is_there)
 
     holds : (f : ℕ) → f < 16 → HoldsFrame f (frame_for layout entry cpr sectors f) block
     holds f below = subst (λ (frame : List ℕ). HoldsFrame f frame block) (line-frames_of layout entry cpr sectors f below) (is.holds f below)
@@ -84,5 +84,5 @@ assembled_so layout cpr parts blocks mastered = (
     named : AreNamed layout blocks
     named k within =
         let entry = get_or (plan_of layout DataOnly) k some_entry in
-        let stands = slice_get-get_or (plan_of layout DataOnly) k some_entry within in
-        names layout cpr (filled_block (parts k)) k entry (blocks k) stands (mastered k entry stands)
+        let is_there = slice_get-get_or (plan_of layout DataOnly) k some_entry within in
+        names layout cpr (filled_block (parts k)) k entry (blocks k) is_there (mastered k entry is_there)

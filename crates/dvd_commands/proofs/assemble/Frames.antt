@@ -12,7 +12,7 @@ use Rattle.dvd_assemble.specs.Frames.{Frame, frame_in, frame_size}
 use Rattle.dvd_assemble.specs.Home.{home}
 use Rattle.dvd_assemble.proofs.Assembling.{length-assembled, none_yet, one_more}
 use Rattle.dvd_capture.specs.declared.form.Form.{Form}
-use Rattle.dvd_capture.proofs.ListedWritten.{prefix-behind}
+use Rattle.dvd_capture.proofs.ListedWritten.{prefix-after}
 use Rattle.dvd_layout.specs.Lengths.{has_two_layers}
 use Rattle.dvd_layout.specs.declared.layout.Shape.{Shape}
 use Rattle.dvd_layout.specs.declared.layout.Shape.TheVariants.{Single, Parallel, Opposite}
@@ -26,7 +26,7 @@ use Rattle.dvd_ports.specs.Whole.{AppendsPrefix}
 use Rattle.dvd_ports.proofs.KnownLemmas.{Appends-then}
 use Rattle.dvd_loop.specs.Laws.{IsPlainEnd}
 use Rattle.dvd_loop.specs.Machine.{IsOutcome, Outcome, Step}
-use Rattle.dvd_loop.specs.Machine.Step.{Tell, Write}
+use Rattle.dvd_loop.specs.Machine.Step.{Report, Write}
 use Rattle.dvd_loop.specs.declared.ends.LoopEnd.{LoopEnd}
 use Rattle.dvd_loop.specs.declared.ends.LoopEnd.TheVariants.{ReportFault}
 use Rattle.dvd_loop.proofs.LoopEnds.{plain_end}
@@ -138,11 +138,11 @@ module _ (old mid new : Option (List ℕ)) (tables : List Table) (k : ℕ) (with
       let after_last : List ℕ = text_of (drop (k + 1) tables) in
       let is : text_of (take k tables) ++ (next ++ after_last) ≡ text_of tables =
       sym (append_assoc (text_of (take k tables)) next after_last) ∙ ap (λ (l : List ℕ). l ++ after_last) (sym (text-more tables k within)) ∙ sym (text-split tables (k + 1)) in
-      subst (AppendsPrefix old new) is (prefix-behind old mid new (text_of (take k tables)) next after_last before begun)
+      subst (AppendsPrefix old new) is (prefix-after old mid new (text_of (take k tables)) next after_last before begun)
 
 -- the closing of a shelf
 abbrev pub closing_of : List Table → ℕ → ℕ → List Step
-closing_of tables placed frames = Write (text_of tables) ∷ Tell (placed_line placed (frames - placed)) ∷ []
+closing_of tables placed frames = Write (text_of tables) ∷ Report (placed_line placed (frames - placed)) ∷ []
 
 -- what closes a shelf of all frames are the steps of the blocks that they make
 pub closing_is : (layout : Layout) (form : Form) (units : List (List ℕ)) (tables : List Table) (placed frames : ℕ) → IsShelfOf layout form units tables placed

@@ -94,7 +94,7 @@ read-wide address k read steps kind size does = elim does [
   )
   | inr refused ↦ (
     let zeros : List ℕ = replicate 2048 0 in
-        ap (λ s. length (written s)) refused.tells ∙ ap length (append-nil zeros) ∙ length-replicate {A = ℕ} 2048 0,
+        ap (λ s. length (written s)) refused.reports ∙ ap length (append-nil zeros) ∙ length-replicate {A = ℕ} 2048 0,
     λ last. let no : Bad ≡ Last = sym refused.bad ∙ last in cc,
   )
 ]

@@ -15,7 +15,7 @@ use Rattle.cd_sector.specs.declared.checking.CdCause.TheVariants.{Parity, Mode, 
 use Rattle.cd_sector.proofs.OneSector.{no_cause}
 use Rattle.cd_sector.proofs.Places.{length-sector_word}
 use Rattle.dvd_loop.specs.Machine.{Step}
-use Rattle.dvd_loop.specs.Machine.Step.{Tell, Write}
+use Rattle.dvd_loop.specs.Machine.Step.{Report, Write}
 use Rattle.dvd_loop.specs.declared.ends.UnitKind.{UnitKind}
 use Rattle.dvd_loop.specs.declared.ends.UnitKind.TheVariants.{Bad, Good}
 use Rattle.dvd_commands.specs.CdLines.{damaged_sector_line}
@@ -61,7 +61,7 @@ read_is_one address k read steps others kind other p q = elim p [
   | inr refused ↦ elim q [
     | inl given ↦ absurd (no_cause (repaired read) address refused.cause given.faultless refused.is_cause)
     | inr same ↦ (
-      refused.tells ∙ ap (λ c. Tell (damaged_sector_line k c) ∷ Write (replicate 2048 0) ∷ []) (one_cause (repaired read) address refused.cause same.cause refused.is_cause same.is_cause) ∙ sym same.tells,
+      refused.reports ∙ ap (λ c. Report (damaged_sector_line k c) ∷ Write (replicate 2048 0) ∷ []) (one_cause (repaired read) address refused.cause same.cause refused.is_cause same.is_cause) ∙ sym same.reports,
       refused.bad ∙ sym same.bad,
     )
   ]
@@ -150,7 +150,7 @@ faultless_or_cause sector address = elim (least_wrong sector 138) [
 pub read_some : (address k : ℕ) (read : List ℕ) → (steps : List Step) × (kind : UnitKind) × IsSectorRead address k read steps kind
 read_some address k read = elim (faultless_or_cause (repaired read) address) [
   | inl right ↦ (Write (user_data (repaired read)) ∷ [], Good, inl (record { faultless = right; writes = refl; good = refl }))
-  | inr (cause, is) ↦ (Tell (damaged_sector_line k cause) ∷ Write (replicate 2048 0) ∷ [], Bad, inr (record { cause = cause; is_cause = is; tells = refl; bad = refl }))
+  | inr (cause, is) ↦ (Report (damaged_sector_line k cause) ∷ Write (replicate 2048 0) ∷ [], Bad, inr (record { cause = cause; is_cause = is; reports = refl; bad = refl }))
 ]
 
 -- what is done for a sector by what `repair` answers
@@ -160,5 +160,5 @@ given address k read sector is right = inl (record { faultless = right; writes =
 
 -- a line and zeros are what is done for a sector with a cause
 pub refused : (address k : ℕ) (read : List ℕ) (cause : CdCause) → IsCause (repaired read) address cause
-    → IsSectorRead address k read (Tell (damaged_sector_line k cause) ∷ Write (replicate 2048 0) ∷ []) Bad
-refused address k read cause is = inr (record { cause = cause; is_cause = is; tells = refl; bad = refl })
+    → IsSectorRead address k read (Report (damaged_sector_line k cause) ∷ Write (replicate 2048 0) ∷ []) Bad
+refused address k read cause is = inr (record { cause = cause; is_cause = is; reports = refl; bad = refl })

@@ -14,7 +14,7 @@ use Rattle.dvd_layout.specs.Place.{image_sectors}
 use Rattle.dvd_layout.specs.declared.entry.BlockPlan.{BlockPlan}
 use Rattle.dvd_layout.specs.declared.layout.Layout.{Layout}
 use Rattle.dvd_loop.specs.Machine.{Step}
-use Rattle.dvd_loop.specs.Machine.Step.{Tell, Write}
+use Rattle.dvd_loop.specs.Machine.Step.{Report, Write}
 use Rattle.dvd_loop.specs.declared.ends.UnitKind.{UnitKind}
 use Rattle.dvd_loop.specs.declared.ends.UnitKind.TheVariants.{Good}
 use Rattle.dvd_decoding.specs.Causes.{two_pass_cause}
@@ -23,18 +23,18 @@ use Rattle.dvd_decoding.specs.Reading.{IsReadAs, block_cause}
 use Rattle.dvd_decoding.specs.declared.cause.Cause.{Cause}
 use Rattle.dvd_read.proofs.Outcomes.{agrees-no_cause}
 use Rattle.dvd_report.specs.Lines.{round_line}
-use Rattle.dvd_commands.specs.Deep.{IsImageRead, round_told}
-use Rattle.dvd_commands.specs.Inner.Performing.{IsFoundBy, TellsAndWrites, sectors_out}
-use Rattle.dvd_commands.proofs.SectorsWritten.{sectors_front}
+use Rattle.dvd_commands.specs.Deep.{IsImageRead, round_report}
+use Rattle.dvd_commands.specs.Inner.Performing.{IsFoundBy, ReportsAndWrites, sectors_out}
+use Rattle.dvd_commands.proofs.SectorsWritten.{sectors_prefix}
 use Rattle.dvd_commands.proofs.RecoveredWidths.{length-sectors_out}
 use Rattle.dvd_commands.proofs.ImageInBlocks.{few-sectors}
 
 -- no line of a round is reported where the two passes have no cause
-pub told_none : (k : ℕ) (entry : BlockPlan) (round : ℕ) (cause : Option Cause) → cause ≡ None → round_told cause k entry round ≡ []
-told_none k entry round cause is = ap (λ c. round_told c k entry round) is
+pub told_none : (k : ℕ) (entry : BlockPlan) (round : ℕ) (cause : Option Cause) → cause ≡ None → round_report cause k entry round ≡ []
+told_none k entry round cause is = ap (λ c. round_report c k entry round) is
 
 -- and it is reported where they have one
-pub told_some : (k : ℕ) (entry : BlockPlan) (round : ℕ) (cause : Option Cause) → is_some cause ≡ true → round_told cause k entry round ≡ Tell (round_line k entry round) ∷ []
+pub told_some : (k : ℕ) (entry : BlockPlan) (round : ℕ) (cause : Option Cause) → is_some cause ≡ true → round_report cause k entry round ≡ Report (round_line k entry round) ∷ []
 told_some k entry round (Some cause) is = refl
 told_some k entry round None is = cc
 
@@ -56,13 +56,13 @@ module _ (layout : Layout) (k : ℕ) (entry : BlockPlan) (rows : List (List ℕ)
   -- what a round gives back of a block that they refuse, with its line
   pub found_given : (bytes sectors : List ℕ) (round : ℕ) → IsFoundBy layout entry rows marks bytes round
       → sectors ≡ take (2048 * image_sectors layout entry.content) bytes → (steps : List Step) (kind : UnitKind)
-      → TellsAndWrites (round_line k entry round) sectors Good steps kind → IsImageRead layout k entry rows marks steps kind
+      → ReportsAndWrites (round_line k entry round) sectors Good steps kind → IsImageRead layout k entry rows marks steps kind
   found_given bytes sectors round found is steps kind done = inl (record {
     round = round;
     sectors = found.sectors;
     read = found.read;
     writes = done.0
-        ∙ ap (λ (l : List ℕ). Tell (round_line k entry round) ∷ Write l ∷ []) (is ∙ found.first)
+        ∙ ap (λ (l : List ℕ). Report (round_line k entry round) ∷ Write l ∷ []) (is ∙ found.first)
         ∙ sym (ap (λ (l : List Step). l ++ Write (sectors_out (image_sectors layout entry.content) found.sectors) ∷ []) (told_some k entry round (two_pass_cause (answers_of rows marks)) found.refused));
     good = done.1;
   })
@@ -77,7 +77,7 @@ first_sectors block entry count bytes product few is =
     let rest : List ℕ = flat_map (λ (sector : List ℕ). sector) (take (16 - count) (drop count sectors)) in
     let all : count + (16 - count) ≡ 16 = omega arith in
     ap (take (2048 * count)) (is ∙ ap (flat_map (λ (sector : List ℕ). sector)) (sym (take_all 16 sectors (omega (arith, size))))
-    ∙ sym (ap (λ n. sectors_out n sectors) all) ∙ sym (sectors_front sectors count (16 - count)))
+    ∙ sym (ap (λ n. sectors_out n sectors) all) ∙ sym (sectors_prefix sectors count (16 - count)))
     ∙ take_at (sectors_out count sectors) rest (2048 * count) (length-sectors_out block entry count product few)
 
 -- a refused block that a round gives back, and whose frames are right, is found by that round

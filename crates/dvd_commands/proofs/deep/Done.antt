@@ -12,7 +12,7 @@ use Rattle.dvd_loop.specs.Machine.Step.{Write}
 use Rattle.coding.specs.TwoPass.{answers_of}
 use Rattle.dvd_deep.proofs.Readings.{deep-no_cause, deep-once, deep-some}
 use Rattle.dvd_decoding.specs.Causes.{two_pass_cause}
-use Rattle.dvd_commands.specs.Deep.{IsDeepened, IsGivenBack, IsImageRead, deep_units, round_told}
+use Rattle.dvd_commands.specs.Deep.{IsDeepened, IsGivenBack, IsImageRead, deep_units, round_report}
 use Rattle.dvd_commands.specs.Inner.Performing.{sectors_out}
 use Rattle.dvd_loop.specs.Laws.{AreTotal}
 use Rattle.dvd_loop.specs.declared.ends.UnitKind.TheVariants.{Good}
@@ -27,8 +27,8 @@ module _ (layout : Layout) (k : ℕ) (entry : BlockPlan) (rows : List (List ℕ)
   given_back_is_one steps others kind other p q =
       let same = deep-once rows marks entry p.round q.round p.sectors q.sectors p.read q.read in (
         p.writes
-            ∙ ap (λ (t : ℕ). round_told (two_pass_cause (answers_of rows marks)) k entry t ++ Write (sectors_out (image_sectors layout entry.content) p.sectors) ∷ []) same.0
-            ∙ ap (λ (s : List (List ℕ)). round_told (two_pass_cause (answers_of rows marks)) k entry q.round ++ Write (sectors_out (image_sectors layout entry.content) s) ∷ []) same.1
+            ∙ ap (λ (t : ℕ). round_report (two_pass_cause (answers_of rows marks)) k entry t ++ Write (sectors_out (image_sectors layout entry.content) p.sectors) ∷ []) same.0
+            ∙ ap (λ (s : List (List ℕ)). round_report (two_pass_cause (answers_of rows marks)) k entry q.round ++ Write (sectors_out (image_sectors layout entry.content) s) ∷ []) same.1
             ∙ sym q.writes,
         p.good ∙ sym q.good,
       )
@@ -50,7 +50,7 @@ module _ (layout : Layout) (k : ℕ) (entry : BlockPlan) (rows : List (List ℕ)
   image_read_some : (cause : Option Cause) → deep_cause rows marks entry ≡ cause → MaySome (IsImageRead layout k entry rows marks)
   image_read_some None none =
       let some = deep-some rows marks entry size marks_size none in (
-        round_told (two_pass_cause (answers_of rows marks)) k entry some.0 ++ Write (sectors_out (image_sectors layout entry.content) some.1) ∷ [],
+        round_report (two_pass_cause (answers_of rows marks)) k entry some.0 ++ Write (sectors_out (image_sectors layout entry.content) some.1) ∷ [],
         Good,
         inl (record { round = some.0; sectors = some.1; read = some.2; writes = refl; good = refl }),
       )

@@ -64,11 +64,11 @@ module _ (layout : Layout) (single : layout.shape ≡ Single) where
 
   -- and each entry of it is known
   pub data_entry : (k : ℕ) (entry : BlockPlan) → slice_get (plan_of layout DataOnly) k ≡ Some entry → entry ≡ drawn_entry k
-  data_entry k entry stands =
+  data_entry k entry is_there =
       let zone = first_data layout in
-      let inside : k < blocks_of layout.sectors0 = subst (λ n. k < n) length-plan (slice_get_within (plan_of layout DataOnly) k entry stands) in
+      let inside : k < blocks_of layout.sectors0 = subst (λ n. k < n) length-plan (slice_get_within (plan_of layout DataOnly) k entry is_there) in
       let here : entry_of zone k ≡ drawn_entry k = ap (image_entry k) (zero-add (16 * k)) in
-      one_entry (plan_of layout DataOnly) k entry (drawn_entry k) stands
+      one_entry (plan_of layout DataOnly) k entry (drawn_entry k) is_there
       (ap (λ plan. slice_get plan k) data_plan ∙ block-at (zone ∷ []) 0 k k zone (omega arith) inside (omega arith) ∙ ap (λ e. Some e) here)
 
   -- its frames of the drawn sectors, with zeros for CPR_MAI, are the drawn frames
@@ -80,8 +80,8 @@ module _ (layout : Layout) (single : layout.shape ≡ Single) where
 
 -- the frames of a block are those that `master` makes
 pub drawn_mastered : DrawnFramesAreMastered
-drawn_mastered layout k entry image single stands =
-    ap (λ e. frames_of layout e (replicate 6 0) image) (data_entry layout single k entry stands) ∙ same_frames layout single k image
+drawn_mastered layout k entry image single is_there =
+    ap (λ e. frames_of layout e (replicate 6 0) image) (data_entry layout single k entry is_there) ∙ same_frames layout single k image
 
 -- lengths of so many blocks break no rule
 valid_lengths : (blocks : ℕ) → 1 ≤ blocks → blocks ≤ 4096 → first_fault Single (16 * blocks) 0 0 0 ≡ None

@@ -17,7 +17,7 @@ use Rattle.dvd_loop.specs.Machine.Step.{Write}
 use Rattle.coding.specs.Found.{block_differences}
 use Rattle.dvd_decoding.specs.Reading.{block_in}
 use Rattle.dvd_commands.specs.Exercise.{AreTrials, IsExercised, IsLeft, IsTrial, Trial, drawn_sector, drawn_sectors, exercise_line, fixed_in, state_at}
-use Rattle.dvd_commands.specs.Inner.Exercising.{CountsOne, IsBehind, are_sectors}
+use Rattle.dvd_commands.specs.Inner.Exercising.{CountsOne, HaveBeenTried, are_sectors}
 use Rattle.dvd_commands.specs.declared.exercise.Counts.{Counts}
 
 -- the first state, and those that follow
@@ -48,9 +48,9 @@ same_sectors image =
     ap (λ f. bytes_eq (line (drawn_sectors image) f) (drawn_sector image f)) is ∙ one)
 
 -- no block yet
-pub none_behind : (seed state : ℕ) (counts : Counts) (work : Work) → state ≡ state_at seed 0 → counts.whole ≡ 0 → counts.fixed ≡ 0 → counts.failed ≡ 0
-    → IsBehind seed 0 state counts work
-none_behind seed state counts work first whole fixed failed = record {
+pub none_after : (seed state : ℕ) (counts : Counts) (work : Work) → state ≡ state_at seed 0 → counts.whole ≡ 0 → counts.fixed ≡ 0 → counts.failed ≡ 0
+    → HaveBeenTried seed 0 state counts work
+none_after seed state counts work first whole fixed failed = record {
   state_is = first;
   trials = [];
   count = refl;
@@ -74,12 +74,12 @@ trials_more seed n trials last count are is k default below = elim (cases_lt k n
       subst (λ (j : ℕ). IsTrial seed j (get_or (trials ++ last ∷ []) j default)) here (subst (IsTrial seed n) (sym (get_or_push trials last default n count)) is)
 ]
 
-module _ (seed n : ℕ) (old_state new_state : ℕ) (old new : Counts) (old_work new_work : Work) (before : IsBehind seed n old_state old old_work)
+module _ (seed n : ℕ) (old_state new_state : ℕ) (old new : Counts) (old_work new_work : Work) (before : HaveBeenTried seed n old_state old old_work)
     (trial : Trial) (drawn : IsTrial seed n trial) (state_is : new_state ≡ hurt_state (state_after old_state 32768))
     (found : block_in trial.rows trial.marks ≡ trial.block) (counted : CountsOne trial.rows trial.marks old new)
     (fixed_most : new.fixed ≤ old.fixed + 2 ^ 32) (failed_most : new.failed ≤ old.failed + 2 ^ 16) (left : IsLeft seed n new_work) where
   -- so block n is counted as well: its trial is one more, and what is counted of it is added
-  pub one_more : IsBehind seed (n + 1) new_state new new_work
+  pub one_more : HaveBeenTried seed (n + 1) new_state new new_work
   one_more = record {
     state_is = state_is ∙ ap (λ x. hurt_state (state_after x 32768)) before.state_is ∙ state_next seed n;
     trials = before.trials ++ trial ∷ [];
@@ -107,7 +107,7 @@ module _ (seed n : ℕ) (old_state new_state : ℕ) (old new : Counts) (old_work
   }
 
 -- after the last block the line is written
-pub exercised : (seed blocks n state : ℕ) (counts : Counts) (work : Work) (line : List ℕ) → n ≡ blocks → IsBehind seed n state counts work
+pub exercised : (seed blocks n state : ℕ) (counts : Counts) (work : Work) (line : List ℕ) → n ≡ blocks → HaveBeenTried seed n state counts work
     → line ≡ exercise_line seed blocks counts.whole counts.fixed counts.failed → IsExercised seed blocks (Write line ∷ [])
 exercised seed blocks n state counts work line all after_last is = record {
   trials = after_last.trials;
@@ -122,6 +122,6 @@ exercised seed blocks n state counts work line all after_last is = record {
 }
 
 -- and the work holds what it left
-pub last_left : (seed blocks n state : ℕ) (counts : Counts) (work : Work) → 1 ≤ blocks → n ≡ blocks → IsBehind seed n state counts work
+pub last_left : (seed blocks n state : ℕ) (counts : Counts) (work : Work) → 1 ≤ blocks → n ≡ blocks → HaveBeenTried seed n state counts work
     → IsLeft seed (blocks - 1) work
 last_left seed blocks n state counts work some all after_last = after_last.left (blocks - 1) (omega (arith, some, all))

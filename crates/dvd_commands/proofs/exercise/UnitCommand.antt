@@ -26,24 +26,24 @@ use Rattle.dvd_ports.proofs.StopLemmas.{unmoved}
 use Rattle.dvd_decoding.specs.Reading.{IsReadAs, block_cause}
 use Rattle.dvd_commands.specs.Exercise.{IsHurtBlock, IsLeft, drawn_sectors, exercise_units, no_marks, state_at}
 use Rattle.dvd_commands.specs.Master.{frames_of}
-use Rattle.dvd_commands.specs.Inner.Exercising.{CountsOne, IsBehind}
+use Rattle.dvd_commands.specs.Inner.Exercising.{CountsOne, HaveBeenTried}
 use Rattle.dvd_commands.specs.declared.exercise.Counts.{Counts}
 use Rattle.dvd_commands.proofs.exercise.Blocks.{IsFound, data_entry, drawn_entry, drawn_mastered, is_found}
 use Rattle.dvd_commands.proofs.exercise.Trials.{one_more}
 
 -- Entry k of a disk with one layer, of which a block was made and hurt.
 module _ (blocks k x : ℕ) (layout : Layout) (single : layout.shape ≡ Single) (within : k < blocks) (few : blocks ≤ 4096)
-    (entry : BlockPlan) (stands : slice_get (plan_of layout DataOnly) k ≡ Some entry) (piece : List ℕ) (block : List (List ℕ)) (work : Work)
+    (entry : BlockPlan) (is_there : slice_get (plan_of layout DataOnly) k ≡ Some entry) (piece : List ℕ) (block : List (List ℕ)) (work : Work)
     (drawn : piece ≡ bytes_from x 32768) (made : IsBlockOf (frames_of layout entry (replicate 6 0) piece) block)
     (hurt : IsHurt (state_after x 32768) block no_marks (rows_of work) (marks_of_work work)) where
   -- the entry is the one that is drawn for block k
   pub entry_is : entry ≡ drawn_entry k
-  entry_is = data_entry layout single k entry stands
+  entry_is = data_entry layout single k entry is_there
 
   -- the work holds block k, made of what was drawn and then hurt
   hurt_block : IsHurtBlock k x block (rows_of work) (marks_of_work work)
   hurt_block = record {
-    made = subst (λ frames. IsBlockOf frames block) (drawn_mastered layout k entry (bytes_from x 32768) single stands)
+    made = subst (λ frames. IsBlockOf frames block) (drawn_mastered layout k entry (bytes_from x 32768) single is_there)
         (subst (λ l. IsBlockOf (frames_of layout entry (replicate 6 0) l) block) drawn made);
     hurt = hurt;
   }
@@ -58,7 +58,7 @@ module _ (blocks k x : ℕ) (layout : Layout) (single : layout.shape ≡ Single)
 
   -- It is read, and counted.
   module _ (seed : ℕ) (image : List ℕ) (image_is : image ≡ piece) (old new : Counts) (old_work new_work : Work) (new_state : ℕ)
-      (before : IsBehind seed k x old old_work) (state_is : new_state ≡ hurt_state (state_after x 32768))
+      (before : HaveBeenTried seed k x old old_work) (state_is : new_state ≡ hurt_state (state_after x 32768))
       (read : IsReadAs (rows_of work) (marks_of_work work) entry (sectors_of new_work))
       (counted : sectors_of new_work ≡ drawn_sectors image → CountsOne (rows_of work) (marks_of_work work) old new)
       (fixed_most : new.fixed ≤ old.fixed + 2 ^ 32) (failed_most : new.failed ≤ old.failed + 2 ^ 16)
@@ -79,7 +79,7 @@ module _ (blocks k x : ℕ) (layout : Layout) (single : layout.shape ≡ Single)
     }
 
     -- so the unit has come after block k
-    pub moved_on : IsBehind seed (k + 1) new_state new new_work
+    pub moved_on : HaveBeenTried seed (k + 1) new_state new new_work
     moved_on =
         one_more seed k x new_state old new old_work new_work before
         (record { block = block; rows = rows_of work; marks = marks_of_work work })
@@ -94,11 +94,11 @@ pub no_source : (P : List ℕ → Outcome → Type 0) (source new_source output 
     → HaveReached P (streams no_stream output report) (streams no_stream new_output new_report) end
 no_source P source new_source output new_output report new_report end comes = record {
   bytes = comes.bytes;
-  told = tt;
+  known = tt;
   outcome = comes.outcome;
   holds = comes.holds;
   ends = comes.ends;
-  moved = record { reads = tt; writes = comes.moved.writes; tells = comes.moved.tells };
+  moved = record { reads = tt; writes = comes.moved.writes; reports = comes.moved.reports };
 }
 
 -- so no read fails
@@ -115,19 +115,19 @@ unread end (inr is) = subst (λ e. SourceCounts e no_stream no_stream) (sym is) 
 -- the loop is done, or its line can't be written
 pub write_end : (seed blocks : ℕ) (bytes : List ℕ) (outcome : Outcome) → IsOutcome (exercise_units seed blocks) bytes outcome
     → (end : LoopEnd) → outcome.end ≡ end → end ≢ ReadFault → end ≢ ReportFault → (end ≡ Done) ⊎ (end ≡ WriteFault)
-write_end seed blocks bytes outcome runs Done is read told = inl refl
-write_end seed blocks bytes outcome runs WriteFault is read told = inr refl
-write_end seed blocks bytes outcome runs ReadFault is read told = absurd (read refl)
-write_end seed blocks bytes outcome runs ReportFault is read told = absurd (told refl)
-write_end seed blocks bytes outcome runs (Short k held) is read told =
+write_end seed blocks bytes outcome runs Done is read known = inl refl
+write_end seed blocks bytes outcome runs WriteFault is read known = inr refl
+write_end seed blocks bytes outcome runs ReadFault is read known = absurd (read refl)
+write_end seed blocks bytes outcome runs ReportFault is read known = absurd (known refl)
+write_end seed blocks bytes outcome runs (Short k held) is read known =
     absurd (never_short (exercise_units seed blocks) bytes outcome runs (λ j own cut. let no : Whole 0 ≡ Cut = sym (sized_enough 0 own (omega arith)) ∙ cut in cc) k held is)
-write_end seed blocks bytes outcome runs Long is read told =
+write_end seed blocks bytes outcome runs Long is read known =
     absurd (never_long (exercise_units seed blocks) bytes outcome runs (λ asks. let no : after_last.Done ≡ after_last.EndOfInput = asks in cc) is)
-write_end seed blocks bytes outcome runs (Damaged bad) is read told =
+write_end seed blocks bytes outcome runs (Damaged bad) is read known =
     absurd (never_damaged (exercise_units seed blocks) bytes outcome runs (λ k before own steps does. let no = does.1 in cc) bad is)
-write_end seed blocks bytes outcome runs NoControl is read told =
+write_end seed blocks bytes outcome runs NoControl is read known =
     absurd (never_no_control (exercise_units seed blocks) bytes outcome runs (λ none. let no : after_last.Done ≡ after_last.NoControl = none in cc) is)
-write_end seed blocks bytes outcome runs (BadMarks k at) is read told =
+write_end seed blocks bytes outcome runs (BadMarks k at) is read known =
     absurd (never_bad_marks (exercise_units seed blocks) bytes outcome runs (λ j place own broken. sized_never_broken 0 place own broken) k at is)
-write_end seed blocks bytes outcome runs (ShortHeader held) is read told = absurd (never_short_header (exercise_units seed blocks) bytes outcome runs held is)
-write_end seed blocks bytes outcome runs (BadHeader at) is read told = absurd (never_bad_header (exercise_units seed blocks) bytes outcome runs at is)
+write_end seed blocks bytes outcome runs (ShortHeader held) is read known = absurd (never_short_header (exercise_units seed blocks) bytes outcome runs held is)
+write_end seed blocks bytes outcome runs (BadHeader at) is read known = absurd (never_bad_header (exercise_units seed blocks) bytes outcome runs at is)

@@ -16,7 +16,7 @@ use Rattle.dvd_loop.specs.declared.ends.UnitKind.{UnitKind}
 use Rattle.dvd_loop.specs.declared.ends.UnitKind.TheVariants.{Bad, Good, Last}
 use Rattle.dvd_loop.proofs.Silent.{AreWrites, one_write}
 use Rattle.dvd_commands.specs.Info.{IsAsked, IsControlDone, format_lines, info_units}
-use Rattle.dvd_commands.specs.Inner.Performing.{AnswersNothing, Tells}
+use Rattle.dvd_commands.specs.Inner.Performing.{AnswersNothing, GivesFormat}
 use Rattle.dvd_commands.proofs.EntryBlocks.{passed_over}
 use Rattle.dvd_commands.proofs.TwoSteps.{nothing_done}
 
@@ -31,11 +31,11 @@ on_ok (Ok own) P value some holds = holds
 on_ok (Err e) P value some holds = absurd (let no : None ≡ Some value = some in cc)
 
 -- a format that is found is an answer
-pub answers : (entry : BlockPlan) (rows : List (List ℕ)) (marks : List (List Bool)) (format : Fields) → Tells entry rows marks format
+pub answers : (entry : BlockPlan) (rows : List (List ℕ)) (marks : List (List Bool)) (format : Fields) → GivesFormat entry rows marks format
     → IsControlDone entry rows marks (Write (format_lines format) ∷ []) Last
-answers entry rows marks format tells =
-    subst (λ f. IsControlDone entry rows marks (Write (format_lines f) ∷ []) Last) (sym tells.fields)
-    (inl (record { sectors = tells.sectors; read = tells.read; valid = tells.valid; writes = refl; last = refl }))
+answers entry rows marks format reports =
+    subst (λ f. IsControlDone entry rows marks (Write (format_lines f) ∷ []) Last) (sym reports.fields)
+    (inl (record { sectors = reports.sectors; read = reports.read; valid = reports.valid; writes = refl; last = refl }))
 
 -- where none is found nothing is done
 pub silent : (entry : BlockPlan) (rows : List (List ℕ)) (marks : List (List Bool)) (old : Streams) → AnswersNothing entry rows marks

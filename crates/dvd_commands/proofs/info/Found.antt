@@ -22,23 +22,23 @@ use Rattle.dvd_loop.proofs.StepLemmas.{onto}
 use Rattle.dvd_commands.specs.Captured.{HasBlocks, block_bytes, block_start, captured_part, from_block}
 use Rattle.dvd_commands.specs.Info.{IsAsked, IsSought, format_lines, info_units}
 use Rattle.dvd_commands.specs.Laws.{FindsNone, FindsTheFirst, InfoFindsTheFirstAnswer}
-use Rattle.dvd_commands.proofs.CapturedBlocks.{IsPast, from-is, front-is, own-is, past_next, past_none}
+use Rattle.dvd_commands.proofs.CapturedBlocks.{IsPast, from-is, prefix-is, own-is, past_next, past_none}
 use Rattle.dvd_commands.proofs.CapturedParts.{broken_stays}
 
 -- a block is passed over, or it is the last and the lines of its format are written
-abbrev TellsOrPasses : List Step → UnitKind → Type 0
-TellsOrPasses steps kind = ((steps ≡ []) × (kind ≡ Good)) ⊎ ((format : Fields) × (steps ≡ Write (format_lines format) ∷ []) × (kind ≡ Last))
+abbrev GivesOrPasses : List Step → UnitKind → Type 0
+GivesOrPasses steps kind = ((steps ≡ []) × (kind ≡ Good)) ⊎ ((format : Fields) × (steps ≡ Write (format_lines format) ∷ []) × (kind ≡ Last))
 
 -- one of the two is done for each block that is asked
-tells_or_passes : (content : Content) (entry : BlockPlan) (rows : List (List ℕ)) (marks : List (List Bool)) (steps : List Step) (kind : UnitKind)
-    → IsAsked content entry rows marks steps kind → TellsOrPasses steps kind
-tells_or_passes Control entry rows marks steps kind does = elim does [
+gives_or_passes : (content : Content) (entry : BlockPlan) (rows : List (List ℕ)) (marks : List (List Bool)) (steps : List Step) (kind : UnitKind)
+    → IsAsked content entry rows marks steps kind → GivesOrPasses steps kind
+gives_or_passes Control entry rows marks steps kind does = elim does [
   | inl answer ↦ inr (fields_in (line answer.sectors 0), answer.writes, answer.last)
   | inr none ↦ inl (none.nothing, none.good)
 ]
-tells_or_passes Zero entry rows marks steps kind does = inl does
-tells_or_passes Reference entry rows marks steps kind does = inl does
-tells_or_passes (Image sector) entry rows marks steps kind does = inl does
+gives_or_passes Zero entry rows marks steps kind does = inl does
+gives_or_passes Reference entry rows marks steps kind does = inl does
+gives_or_passes (Image sector) entry rows marks steps kind does = inl does
 
 -- it ends with so much taken and written, and nothing reported
 abbrev ends_with : List ℕ → List ℕ → LoopEnd → Outcome
@@ -69,22 +69,22 @@ module _ (initial : ℕ) (form : Form) (all : List ℕ) where
   Finds a = FindsTheFirst initial form all a ⊎ FindsNone initial form all a
 
   -- after all blocks none has answered
-  behind_all : (front left : List ℕ) (a : Outcome) → IsPast form all (initial + 224) front left → AreSilent (initial + 224) → a ≡ ended NoControl
-      → Finds (onto front [] [] a)
-  behind_all front left a past silent ends = inr (record {
+  behind_all : (prefix left : List ℕ) (a : Outcome) → IsPast form all (initial + 224) prefix left → AreSilent (initial + 224) → a ≡ ended NoControl
+      → Finds (onto prefix [] [] a)
+  behind_all prefix left a past silent ends = inr (record {
     none = λ j lt whole. silent j lt;
     ends = inl (record {
       whole = past.has;
-      is = ap (onto front [] []) ends
-          ∙ ap (λ l. ends_with l [] NoControl) (append-nil front ∙ sym (front-is form all (initial + 224) front left past));
+      is = ap (onto prefix [] []) ends
+          ∙ ap (λ l. ends_with l [] NoControl) (append-nil prefix ∙ sym (prefix-is form all (initial + 224) prefix left past));
     });
   })
 
-  module _ (k : ℕ) (front left : List ℕ) (a : Outcome) (past : IsPast form all k front left) (sought : k < initial + 224) (silent : AreSilent k) where
+  module _ (k : ℕ) (prefix left : List ℕ) (a : Outcome) (past : IsPast form all k prefix left) (sought : k < initial + 224) (silent : AreSilent k) where
     -- the input ends within block k
-    runs_out : captured_part form left ≡ Cut → a ≡ taking left (ended (Short k (length left))) → Finds (onto front [] [] a)
+    runs_out : captured_part form left ≡ Cut → a ≡ taking left (ended (Short k (length left))) → Finds (onto prefix [] [] a)
     runs_out cut ends =
-        let begins : captured_part form (from_block form all k) ≡ Cut = ap (captured_part form) (from-is form all k front left past) ∙ cut in
+        let begins : captured_part form (from_block form all k) ≡ Cut = ap (captured_part form) (from-is form all k prefix left past) ∙ cut in
         inr (record {
           none = λ j lt has. silent_before k silent (λ whole. let no : Cut ≡ Whole (unit_size form (from_block form all k)) = sym begins ∙ whole in cc) j has;
           ends = inr (inl (record {
@@ -93,16 +93,16 @@ module _ (initial : ℕ) (form : Form) (all : List ℕ) where
             sought = sought;
             whole = past.has;
             cut = begins;
-            size = ap length past.parts ∙ length-append front left ∙ ap (λ n. n + length left) past.at;
-            is = ap (onto front [] []) ends ∙ ap (λ l. ends_with l [] (Short k (length left))) (ap (λ l. front ++ l) (append-nil left) ∙ sym past.parts);
+            size = ap length past.parts ∙ length-append prefix left ∙ ap (λ n. n + length left) past.at;
+            is = ap (onto prefix [] []) ends ∙ ap (λ l. ends_with l [] (Short k (length left))) (ap (λ l. prefix ++ l) (append-nil left) ∙ sym past.parts);
           }));
         })
 
     -- block k breaks a rule
     breaks_off : (own more : List ℕ) (at : ℕ) → left ≡ own ++ more → captured_part form own ≡ Broken at → a ≡ taking own (ended (BadMarks k at))
-        → Finds (onto front [] [] a)
+        → Finds (onto prefix [] [] a)
     breaks_off own more at is broken ends =
-        let from = from-is form all k front left past in
+        let from = from-is form all k prefix left past in
         let begins : captured_part form (from_block form all k) ≡ Broken at = ap (captured_part form) (from ∙ is) ∙ broken_stays form at own more broken in
         inr (record {
           none = λ j lt has. silent_before k silent (λ whole. let no : Broken at ≡ Whole (unit_size form (from_block form all k)) = sym begins ∙ whole in cc) j has;
@@ -113,31 +113,31 @@ module _ (initial : ℕ) (form : Form) (all : List ℕ) where
             whole = past.has;
             broken = begins;
             own = own;
-            front = (more, from ∙ is);
+            prefix = (more, from ∙ is);
             taken = broken;
-            is = ap (onto front [] []) ends
-                ∙ ap (λ l. ends_with l [] (BadMarks k at)) (ap (λ l. front ++ l) (append-nil own) ∙ ap (λ l. l ++ own) (sym (front-is form all k front left past)));
+            is = ap (onto prefix [] []) ends
+                ∙ ap (λ l. ends_with l [] (BadMarks k at)) (ap (λ l. prefix ++ l) (append-nil own) ∙ ap (λ l. l ++ own) (sym (prefix-is form all k prefix left past)));
           }));
         })
 
     -- one of the two, where the loop ends within it
-    within_block : IsEndedWithin (info_units initial form) k left a → IsFaultless a.end → Finds (onto front [] [] a)
+    within_block : IsEndedWithin (info_units initial form) k left a → IsFaultless a.end → Finds (onto prefix [] [] a)
     within_block w none = elim (short_or_broken (info_units initial form) k left a w none) [
       | inl (cut, is) ↦ runs_out cut is
-      | inr (at, own, more, front, broken, is) ↦ breaks_off own more at front broken is
+      | inr (at, own, more, prefix, broken, is) ↦ breaks_off own more at prefix broken is
     ]
 
     -- block k answers
-    answered : (own more : List ℕ) (format : Fields) (after : Outcome) → IsPast form all (suc k) (front ++ own) more
+    answered : (own more : List ℕ) (format : Fields) (after : Outcome) → IsPast form all (suc k) (prefix ++ own) more
         → IsSought initial form k (block_bytes form all k) (Write (format_lines format) ∷ []) Last
         → a ≡ taking own after → Performs (Write (format_lines format) ∷ []) (λ o. o ≡ ended Done) after → IsFaultless after.end
-        → Finds (onto front [] [] a)
+        → Finds (onto prefix [] [] a)
     answered own more format after behind_it answers takes does none =
         let lines = format_lines format in
         let done = all_done (Write lines ∷ []) (λ o. o ≡ ended Done) after does none in
         let next : suc k ≡ k + 1 = sym (add-one k) in
-        let taken : front ++ (own ++ []) ≡ take (block_start form all (k + 1)) all =
-        ap (λ l. front ++ l) (append-nil own) ∙ sym (front-is form all (suc k) (front ++ own) more behind_it) ∙ ap (λ n. take (block_start form all n) all) next in
+        let taken : prefix ++ (own ++ []) ≡ take (block_start form all (k + 1)) all =
+        ap (λ l. prefix ++ l) (append-nil own) ∙ sym (prefix-is form all (suc k) (prefix ++ own) more behind_it) ∙ ap (λ n. take (block_start form all n) all) next in
         let out : (lines ++ []) ++ [] ≡ lines = append-nil (lines ++ []) ∙ append-nil lines in
         inl (record {
           k = k;
@@ -146,40 +146,40 @@ module _ (initial : ℕ) (form : Form) (all : List ℕ) where
           whole = subst (HasBlocks form all) next behind_it.has;
           answers = answers;
           none_before = silent;
-          is = ap (onto front [] []) (takes ∙ ap (taking own) (done.is ∙ ap (onto [] (lines ++ []) []) done.holds)) ∙ (λ i. ends_with (taken i) (out i) Done);
+          is = ap (onto prefix [] []) (takes ∙ ap (taking own) (done.is ∙ ap (onto [] (lines ++ []) []) done.holds)) ∙ (λ i. ends_with (taken i) (out i) Done);
         })
 
   -- what n blocks more find, after a front of the input with blocks that answer nothing
-  finds : (n : ℕ) (before : List (List ℕ)) (bad : ℕ) (front left : List ℕ) (a : Outcome) → IsPast form all (length before) front left
+  finds : (n : ℕ) (before : List (List ℕ)) (bad : ℕ) (prefix left : List ℕ) (a : Outcome) → IsPast form all (length before) prefix left
       → length before + n ≡ initial + 224 → AreSilent (length before)
-      → Continues (info_units initial form) n before bad left a → IsFaultless a.end → Finds (onto front [] [] a)
+      → Continues (info_units initial form) n before bad left a → IsFaultless a.end → Finds (onto prefix [] [] a)
   unfolding Continues
-  finds zero before bad front left a past count silent (steps, closes, does) none =
+  finds zero before bad prefix left a past count silent (steps, closes, does) none =
       let now : a ≡ ended NoControl = subst (λ s. Performs s (EndsAfterLast after_last.NoControl bad left) a) closes does in
       let number : length before ≡ initial + 224 = omega (arith, count) in
-      behind_all front left a (subst (λ k. IsPast form all k front left) number past) (subst AreSilent number silent) now
-  finds (suc n) before bad front left a past count silent (inl w) none =
-      within_block (length before) front left a past (omega (arith, count)) silent w none
-  finds (suc n) before bad front left a past count silent (inr t) none =
+      behind_all prefix left a (subst (λ k. IsPast form all k prefix left) number past) (subst AreSilent number silent) now
+  finds (suc n) before bad prefix left a past count silent (inl w) none =
+      within_block (length before) prefix left a past (omega (arith, count)) silent w none
+  finds (suc n) before bad prefix left a past count silent (inr t) none =
       let k = length before in
-      let behind_it = past_next form all k front left past t.own t.left t.front t.unit.whole in
-      let own : t.own ≡ block_bytes form all k = sym (own-is form all k front left past t.own t.left t.front t.unit.whole) in
+      let behind_it = past_next form all k prefix left past t.own t.left t.prefix t.unit.whole in
+      let own : t.own ≡ block_bytes form all k = sym (own-is form all k prefix left past t.own t.left t.prefix t.unit.whole) in
       let does : IsSought initial form k (block_bytes form all k) t.steps t.kind = subst (λ l. IsSought initial form k l t.steps t.kind) own t.unit.does in
       let faultless : IsFaultless t.after.end = subst (λ (o : Outcome). IsFaultless o.end) t.takes none in
       let Next : Outcome → Type 0 = Continues (info_units initial form) n (before ++ t.own ∷ []) (bad + bad_of t.kind) t.left in
-      elim (tells_or_passes does.entry.content does.entry (captured_rows form (block_bytes form all k)) (captured_marks form (block_bytes form all k)) t.steps t.kind does.does) [
+      elim (gives_or_passes does.entry.content does.entry (captured_rows form (block_bytes form all k)) (captured_marks form (block_bytes form all k)) t.steps t.kind does.does) [
         | inl (nothing, good) ↦
             let one : length (before ++ t.own ∷ []) ≡ suc k = length-append before (t.own ∷ []) ∙ add-one k in
             let goes : Next t.after = subst (λ v. ContinuesAfter v Next t.after) good (subst (λ s. Performs s (ContinuesAfter t.kind Next) t.after) nothing t.does) in
             let more = one_more_silent k silent (subst (λ v. IsSought initial form k (block_bytes form all k) [] v) good (subst (λ s. IsSought initial form k (block_bytes form all k) s t.kind) nothing does)) in
-            subst Finds (ap (λ l. record t.after { taken = l }) (append_assoc front t.own t.after.taken) ∙ ap (onto front [] []) (sym t.takes)) (
-            finds n (before ++ t.own ∷ []) (bad + bad_of t.kind) (front ++ t.own) t.left t.after (subst (λ j. IsPast form all j (front ++ t.own) t.left) (sym one) behind_it)
+            subst Finds (ap (λ l. record t.after { taken = l }) (append_assoc prefix t.own t.after.taken) ∙ ap (onto prefix [] []) (sym t.takes)) (
+            finds n (before ++ t.own ∷ []) (bad + bad_of t.kind) (prefix ++ t.own) t.left t.after (subst (λ j. IsPast form all j (prefix ++ t.own) t.left) (sym one) behind_it)
             (omega (arith, one, count)) (subst AreSilent (sym one) more) goes faultless
             )
         | inr (format, writes, last) ↦
             let answers = subst (λ v. IsSought initial form k (block_bytes form all k) (Write (format_lines format) ∷ []) v) last (subst (λ s. IsSought initial form k (block_bytes form all k) s t.kind) writes does) in
             let ends = subst (λ v. Performs (Write (format_lines format) ∷ []) (ContinuesAfter v Next) t.after) last (subst (λ s. Performs s (ContinuesAfter t.kind Next) t.after) writes t.does) in
-            answered k front left a past (omega (arith, count)) silent t.own t.left format t.after behind_it answers t.takes ends faultless
+            answered k prefix left a past (omega (arith, count)) silent t.own t.left format t.after behind_it answers t.takes ends faultless
       ]
 
 -- what a run finds from the first block on

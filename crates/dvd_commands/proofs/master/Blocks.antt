@@ -17,10 +17,10 @@ filled_is : (piece : List ℕ) (size : ℕ) → length piece ≡ 32768 → size 
 filled_is piece size long most zeros =
     ap (λ n. take size piece ++ replicate (32768 - n) 0) (length-take-le size piece (omega arith)) ∙ ap (λ l. take size piece ++ l) (sym zeros) ∙ take-append-drop size piece
 
-module _ (layout : Layout) (zones : Zones) (k : ℕ) (entry : BlockPlan) (stands : slice_get (plan_of layout zones) k ≡ Some entry) where
+module _ (layout : Layout) (zones : Zones) (k : ℕ) (entry : BlockPlan) (is_there : slice_get (plan_of layout zones) k ≡ Some entry) where
   -- how many bytes block k takes
   pub size_is : bytes_of_block layout zones k ≡ image_bytes layout entry
-  size_is = ap (bytes_of_entry layout) stands
+  size_is = ap (bytes_of_entry layout) is_there
 
   -- as many bytes of a piece that is filled with zeros as block k takes: their frames' block is what mastering may
   -- write for them
@@ -31,7 +31,7 @@ module _ (layout : Layout) (zones : Zones) (k : ℕ) (entry : BlockPlan) (stands
     length-take-le size piece (omega arith) ∙ is ∙ sym size_is,
     record {
       entry = entry;
-      stands = stands;
+      is_there = is_there;
       block = block;
       is_block = subst (λ l. IsBlockOf (frames_of layout entry cpr l) block) (same ∙ sym (filled_is piece size long most zeros)) is_block;
       writes = refl;

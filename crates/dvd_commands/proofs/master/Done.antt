@@ -19,7 +19,7 @@ use Rattle.dvd_commands.proofs.SomeThing.{MayEach}
 -- The sixteen frames of a block have one block at most.
 pub mastered_is_one : (layout : Layout) (zones : Zones) (cpr : List ℕ) (k : ℕ) (own : List ℕ) → MayOne (IsMastered layout zones cpr k own)
 mastered_is_one layout zones cpr k own steps others kind other p q =
-    let entry : p.entry ≡ q.entry = one_entry (plan_of layout zones) k p.entry q.entry p.stands q.stands in
+    let entry : p.entry ≡ q.entry = one_entry (plan_of layout zones) k p.entry q.entry p.is_there q.is_there in
     let block : p.block ≡ q.block =
     one_block_at_most (frames_of layout q.entry cpr (filled_block own)) p.block q.block (subst (λ e. IsBlockOf (frames_of layout e cpr (filled_block own)) p.block) entry p.is_block) q.is_block in
     (p.writes ∙ ap (λ b. Write (recording b) ∷ []) block ∙ sym q.writes, p.good ∙ sym q.good)
@@ -39,5 +39,5 @@ mastered_some layout zones cpr six k own within are =
     let block = some_block (frames_of layout entry cpr (filled_block own)) (λ f below. (frame f below).size) (λ f below. (frame f below).bytes) in (
       Write (recording block.0) ∷ [],
       Good,
-      record { entry = entry; stands = some.1; block = block.0; is_block = block.1; writes = refl; good = refl },
+      record { entry = entry; is_there = some.1; block = block.0; is_block = block.1; writes = refl; good = refl },
     )

@@ -25,11 +25,11 @@ module _ (layout : Layout) (zones : Zones) (cpr image : List ℕ) where
   -- where mastering has come to a block of image sectors, it has taken those before its first, in order
   pub in_order : (k : ℕ) (entry : BlockPlan) (a : Outcome) → slice_get (plan_of layout zones) k ≡ Some entry → IsImage entry.content
       → IsOutcome (first k (master_units layout zones cpr)) image a → a.end ≡ Done → length a.taken ≡ 2048 * image_from entry.content
-  in_order k entry a stands is_image runs done =
-      let within = slice_get_within (plan_of layout zones) k entry stands in
+  in_order k entry a is_there is_image runs done =
+      let within = slice_get_within (plan_of layout zones) k entry is_there in
       taken_number (first k (master_units layout zones cpr)) (bytes_of_block layout zones) (λ k bytes. refl) never_last image a refl runs done
       ∙ start-blocks layout zones k (omega arith)
-      ∙ ap (λ n. 2048 * n) (plan_of-in_order layout zones k entry stands is_image)
+      ∙ ap (λ n. 2048 * n) (plan_of-in_order layout zones k entry is_there is_image)
 
   -- the blocks are units of given sizes, and none is bad
   all_good : AreGood (master_units layout zones cpr) (bytes_of_block layout zones) (λ k own out lines. Unit {0})

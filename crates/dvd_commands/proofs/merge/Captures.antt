@@ -9,7 +9,7 @@ use Rattle.std.proofs.lemmas.Nat.{mul-le}
 use Rattle.dvd_capture.specs.Captured.{Captures, EndsAfter, FailsWithin, HasSize, block_size, captured_rows}
 use Rattle.dvd_capture.specs.declared.form.Form.{Form}
 use Rattle.dvd_capture.specs.declared.form.Form.TheVariants.{Listed, Plain, Marked}
-use Rattle.dvd_capture.proofs.Fetching.{part-append, part-behind, sized-block}
+use Rattle.dvd_capture.proofs.Fetching.{part-append, part-after, sized-block}
 use Rattle.dvd_loop.specs.UnitCommand.{EndsShort}
 use Rattle.dvd_loop.specs.declared.ends.LoopEnd.{LoopEnd}
 use Rattle.dvd_loop.specs.declared.ends.LoopEnd.TheVariants.{ReadFault, Short}
@@ -42,7 +42,7 @@ module _ (form : Form) (n : ℕ) (bytes own : List ℕ) (size : length bytes ≡
 
   -- the last capture is the one that came
   capture-last : capture_in form (bytes ++ own) n ≡ own
-  capture-last = part-behind bytes own (block_size form * n) (block_size form) (grind (arith, size)) whole
+  capture-last = part-after bytes own (block_size form * n) (block_size form) (grind (arith, size)) whole
 
   -- what capture c of these bytes saw of its block, place by place
   at : List ℕ → ℕ → Table

@@ -15,7 +15,7 @@ use Rattle.dvd_commands.specs.Commands.{GoesOver, breaks_in, meaning}
 use Rattle.dvd_commands.specs.Meaning.{GoesBy}
 use Rattle.dvd_commands.specs.Inner.Opened.{EndsInHeader, HasBegun, HasOpened, NoLoop}
 use Rattle.dvd_commands.specs.Performed.{HasGoneOver, HasLooped}
-use Rattle.dvd_commands.specs.Opening.{ComesBehind, IsOpened, Opens}
+use Rattle.dvd_commands.specs.Opening.{ComesAfterHeader, IsOpened, Opens}
 use Rattle.dvd_words.specs.Settings.{broken_rule}
 use Rattle.dvd_words.specs.declared.table.Command.{Command}
 use Rattle.dvd_words.specs.declared.settings.Settings.{Settings}
@@ -78,11 +78,11 @@ pub opened_over : (command : Command) (settings stated : Settings) (layout : Lay
 opened_over command settings stated layout is old read output report new end opened causes subject has ended =
     let over = goes_over command stated (ap (λ s. s.command) opened.header.states.all ∙ is) subject has (streams read output report) new end ended in record {
       comes = comes_after (GoesOver stated) (IsOpened GoesOver settings) (streams old output report) (streams read output report) new end opened.own [] []
-          (record { reads = opened.reads; writes = Appends-none output.bytes; tells = Appends-none report.bytes })
+          (record { reads = opened.reads; writes = Appends-none output.bytes; reports = Appends-none report.bytes })
           (λ left after holds. record {
             own = opened.own;
             left = left;
-            front = refl;
+            prefix = refl;
             after = after;
             comes = inr (opened.whole, inr (stated, opened.header, opened.valid, holds));
             takes = refl;
@@ -93,7 +93,7 @@ opened_over command settings stated layout is old read output report new end ope
 
 -- what comes after a header where no loop does may come whatever the loops are
 behind_none : (Loops : Settings → List ℕ → Outcome → Type 0) (settings : Settings) (own left : List ℕ) (after : Outcome)
-    → ComesBehind NoLoop settings own left after → ComesBehind Loops settings own left after
+    → ComesAfterHeader NoLoop settings own left after → ComesAfterHeader Loops settings own left after
 behind_none Loops settings own left after (inl early) = inl early
 behind_none Loops settings own left after (inr (whole, inl broken)) = inr (whole, inl broken)
 behind_none Loops settings own left after (inr (whole, inr (stated, header, valid, none))) = absurd none
@@ -105,12 +105,12 @@ pub opened_ended : (Loops : Settings → List ℕ → Outcome → Type 0) (setti
 opened_ended Loops settings old read output report end ended_in causes = record {
   comes = record {
     bytes = ended_in.own ++ ended_in.left;
-    told = told_before old.bytes read.bytes ended_in.own ended_in.left ended_in.reads ended_in.told;
+    known = told_before old.bytes read.bytes ended_in.own ended_in.left ended_in.reads ended_in.known;
     outcome = taking ended_in.own (ended end);
     holds = record {
       own = ended_in.own;
       left = ended_in.left;
-      front = refl;
+      prefix = refl;
       after = ended end;
       comes = behind_none Loops settings ended_in.own ended_in.left (ended end) ended_in.ends;
       takes = refl;
@@ -119,7 +119,7 @@ opened_ended Loops settings old read output report end ended_in causes = record 
     moved = record {
       reads = subst (Consumes old.bytes read.bytes) (sym (append-nil ended_in.own)) ended_in.reads;
       writes = Appends-none output.bytes;
-      tells = Appends-none report.bytes;
+      reports = Appends-none report.bytes;
     };
   };
   causes = causes;

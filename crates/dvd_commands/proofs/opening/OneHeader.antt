@@ -4,7 +4,7 @@ use Rattle.std.specs.List.{list_all, range_with_len}
 use Rattle.std.proofs.lemmas.Bool.{cases_lt, lt-ltb}
 use Rattle.std.proofs.lemmas.List.FromFn.{get_or-range_with_len, length-range_with_len}
 use Rattle.std.proofs.lemmas.List.Sums.{AllPass-from_list_all}
-use Rattle.dvd_capture.specs.Header.{IsFirstWrongByte, header_bytes, may_stand}
+use Rattle.dvd_capture.specs.Header.{IsFirstWrongByte, header_bytes, may_be_there}
 use Rattle.dvd_capture.specs.Laws.{StateTheSame}
 use Rattle.dvd_capture.specs.declared.header.Header.{Header}
 use Rattle.dvd_capture.proofs.Headers.{headers_differ}
@@ -22,24 +22,24 @@ unfolding header_bytes
 length-header header = refl
 
 -- each of its bytes is allowed at its place
-all-allowed : (header : Header) → list_all (λ k. may_stand k (slice_index (header_bytes header) k)) (range_with_len 0 32) ≡ true
-unfolding header_bytes may_stand
+all-allowed : (header : Header) → list_all (λ k. may_be_there k (slice_index (header_bytes header) k)) (range_with_len 0 32) ≡ true
+unfolding header_bytes may_be_there
 all-allowed header =
     ap (λ (b : Bool). b && (nat_lt header.zones 2 && true)) (lt-ltb header.shape 3 header.known_shape)
     ∙ ap (λ (b : Bool). b && true) (lt-ltb header.zones 2 header.known_zones)
 
 -- the same at one place
-header-allowed : (header : Header) (place : ℕ) → place < 32 → may_stand place (slice_index (header_bytes header) place) ≡ true
+header-allowed : (header : Header) (place : ℕ) → place < 32 → may_be_there place (slice_index (header_bytes header) place) ≡ true
 header-allowed header place below =
     let within = subst (λ n. place < n) (sym (length-range_with_len 0 32)) below in
-    subst (λ k. may_stand k (slice_index (header_bytes header) k) ≡ true) (get_or-range_with_len 0 32 place 0 below ∙ (let none : 0 + place ≡ place = omega arith in none))
-    (AllPass-from_list_all (λ k. may_stand k (slice_index (header_bytes header) k)) (range_with_len 0 32) (all-allowed header) place 0 within)
+    subst (λ k. may_be_there k (slice_index (header_bytes header) k) ≡ true) (get_or-range_with_len 0 32 place 0 below ∙ (let none : 0 + place ≡ place = omega arith in none))
+    (AllPass-from_list_all (λ k. may_be_there k (slice_index (header_bytes header) k)) (range_with_len 0 32) (all-allowed header) place 0 within)
 
 -- so no byte of it is wrong
 never_wrong : (own : List ℕ) (header : Header) (at : ℕ) → own ≡ header_bytes header → IsFirstWrongByte own at → ⊥
 never_wrong own header at is wrong =
     let may = header-allowed header at wrong.within in
-    let no : true ≡ false = sym may ∙ ap (λ l. may_stand at (slice_index l at)) (sym is) ∙ wrong.wrong in cc
+    let no : true ≡ false = sym may ∙ ap (λ l. may_be_there at (slice_index l at)) (sym is) ∙ wrong.wrong in cc
 
 -- the first wrong byte is one
 first_wrong_once : (own : List ℕ) (a b : ℕ) → IsFirstWrongByte own a → IsFirstWrongByte own b → a ≡ b

@@ -49,4 +49,4 @@ module _ (layout : Layout) (k : ℕ) (entry : BlockPlan) (rows : List (List ℕ)
   -- a block that is refused for its cause
   pub refused : (has : Option Cause) (cause : Cause) → has ≡ Some cause → (steps : List Step) (kind : UnitKind) → IsRefusedFor layout k entry rows marks cause steps kind
       → IsRefused has layout k entry rows marks steps kind
-  refused has cause first steps kind is = record { cause = cause; first = first; tells = is.0; bad = is.1 }
+  refused has cause first steps kind is = record { cause = cause; first = first; reports = is.0; bad = is.1 }

@@ -80,7 +80,7 @@ written_is layout form k entry own steps kind whole done =
     let marks = captured_marks form own in
     let count = image_sectors layout entry.content in
     elim done [
-      | inr refused ↦ ap written refused.tells ∙ append-nil (sectors_out count (block_out rows marks entry))
+      | inr refused ↦ ap written refused.reports ∙ append-nil (sectors_out count (block_out rows marks entry))
       | inl given ↦
           let received = captured-received form own whole in
           let read = read-determined rows marks entry given.sectors received.height received.marks_height given.read in
@@ -94,20 +94,20 @@ module _ (layout : Layout) (zones : Zones) (form : Form) (capture : List ℕ) (a
   image_there : (k : ℕ) (entry : BlockPlan) → slice_get (plan_of layout zones) k ≡ Some entry → IsImage entry.content
       → image_part layout entry a.out
       ≡ sectors_out (image_sectors layout entry.content) (block_out (captured_rows form (block_bytes form capture k)) (captured_marks form (block_bytes form capture k)) entry)
-  image_there k entry stands is_image =
+  image_there k entry is_there is_image =
       let count = length (plan_of layout zones) in
-      let within : k < count = slice_get_within (plan_of layout zones) k entry stands in
+      let within : k < count = slice_get_within (plan_of layout zones) k entry is_there in
       let enough : (k + 1) * block_size form ≤ length capture =
       subst (λ n. (k + 1) * block_size form ≤ n) (sym size) (mul-le-mul_right {m = k + 1} {n = count} (block_size form) (omega (arith, within))) in
       let whole = has_blocks form one capture (k + 1) enough in
       let wide = recovered-wide layout zones form in
       let own = block_bytes form capture k in
-      let t = has_unit layout zones form (IsRecovered layout zones form) wide capture a runs none k entry stands is_image whole in
-      let bytes : length (written t.steps) ≡ image_bytes layout entry = (wide k own t.steps t.kind t.does).0 ∙ size_is layout zones k entry stands in
+      let t = has_unit layout zones form (IsRecovered layout zones form) wide capture a runs none k entry is_there is_image whole in
+      let bytes : length (written t.steps) ≡ image_bytes layout entry = (wide k own t.steps t.kind t.does).0 ∙ size_is layout zones k entry is_there in
       part_there (2048 * image_from entry.content) (image_bytes layout entry) t.before (written t.steps) a.out t.size bytes
       (subst (λ l. IsPrefixOf (t.before ++ l) a.out) (sym (append-nil (written t.steps))) t.out)
       ∙ written_is layout form k entry own t.steps t.kind (block-whole form capture (k + 1) whole k (omega arith))
-      (recovered_at layout zones form k entry own t.steps t.kind stands is_image t.does)
+      (recovered_at layout zones form k entry own t.steps t.kind is_there is_image t.does)
 
   -- a block without image sectors gives none
   nothing_there : (entry : BlockPlan) (own : List ℕ) (content : Content) → entry.content ≡ content → image_sectors layout content ≡ 0
@@ -121,9 +121,9 @@ module _ (layout : Layout) (zones : Zones) (form : Form) (capture : List ℕ) (a
   pub each_there : (content : Content) (k : ℕ) (entry : BlockPlan) (own : List ℕ) → slice_get (plan_of layout zones) k ≡ Some entry → entry.content ≡ content
       → own ≡ block_bytes form capture k
       → image_part layout entry a.out ≡ sectors_out (image_sectors layout entry.content) (block_out (captured_rows form own) (captured_marks form own) entry)
-  each_there (Image sector) k entry own stands is own_is =
-      image_there k entry stands (subst IsImage (sym is) tt)
+  each_there (Image sector) k entry own is_there is own_is =
+      image_there k entry is_there (subst IsImage (sym is) tt)
       ∙ ap (λ l. sectors_out (image_sectors layout entry.content) (block_out (captured_rows form l) (captured_marks form l) entry)) (sym own_is)
-  each_there Zero k entry own stands is own_is = nothing_there entry own Zero is refl
-  each_there Reference k entry own stands is own_is = nothing_there entry own Reference is refl
-  each_there Control k entry own stands is own_is = nothing_there entry own Control is refl
+  each_there Zero k entry own is_there is own_is = nothing_there entry own Zero is refl
+  each_there Reference k entry own is_there is own_is = nothing_there entry own Reference is refl
+  each_there Control k entry own is_there is own_is = nothing_there entry own Control is refl

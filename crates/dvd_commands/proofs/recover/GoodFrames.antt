@@ -31,8 +31,8 @@ use Rattle.dvd_commands.proofs.CapturedBlocks.{block-whole}
 use Rattle.dvd_commands.proofs.RecoveredWidths.{recovered-wide}
 
 -- a part of the front of a list
-part-front : (xs : List ℕ) (m a n : ℕ) → a + n ≤ length (take m xs) → take n (drop a (take m xs)) ≡ take n (drop a xs)
-part-front xs m a n inside = sym (part-append (take m xs) (drop m xs) a n inside) ∙ ap (λ l. take n (drop a l)) (take-append-drop m xs)
+part-prefix : (xs : List ℕ) (m a n : ℕ) → a + n ≤ length (take m xs) → take n (drop a (take m xs)) ≡ take n (drop a xs)
+part-prefix xs m a n inside = sym (part-append (take m xs) (drop m xs) a n inside) ∙ ap (λ l. take n (drop a l)) (take-append-drop m xs)
 
 -- a part of the second of two lists, in what begins with both
 part-further : (xs ys left out : List ℕ) (a b n : ℕ) → length xs ≡ a → b + n ≤ length ys → out ≡ (xs ++ ys) ++ left
@@ -54,14 +54,14 @@ at_place layout zones form bytes a runs none cpr image k f entry b below good =
     let own = block_bytes form bytes k in
     let part = image_part layout entry image in
     let size = length-part layout entry.content image m.image_size in
-    let t = has_unit layout zones form (IsRecovered layout zones form) (recovered-wide layout zones form) bytes a runs none k entry m.stands m.is_image m.whole in
-    let wide : length (written t.steps) ≡ image_bytes layout entry = (recovered-wide layout zones form k own t.steps t.kind t.does).0 ∙ size_is layout zones k entry m.stands in
+    let t = has_unit layout zones form (IsRecovered layout zones form) (recovered-wide layout zones form) bytes a runs none k entry m.is_there m.is_image m.whole in
+    let wide : length (written t.steps) ≡ image_bytes layout entry = (recovered-wide layout zones form k own t.steps t.kind t.does).0 ∙ size_is layout zones k entry m.is_there in
     let at : 2048 * (from + f) ≡ 2048 * from + 2048 * f = omega arith in
     ap (λ n. take 2048 (drop n a.out)) at
     ∙ part-further t.before (written t.steps) t.out.0 a.out (2048 * from) (2048 * f) 2048 t.size (omega (arith, wide)) t.out.1
-    ∙ given_good layout zones form cpr k f entry part own m.block b.cause t.steps t.kind m.stands m.is_image m.cpr_size size m.is_block
+    ∙ given_good layout zones form cpr k f entry part own m.block b.cause t.steps t.kind m.is_there m.is_image m.cpr_size size m.is_block
     (block-whole form bytes (k + 1) m.whole k (omega arith)) b.refused below good t.does
-    ∙ part-front (drop (2048 * from) image) (image_bytes layout entry) (2048 * f) 2048 (omega (arith, size))
+    ∙ part-prefix (drop (2048 * from) image) (image_bytes layout entry) (2048 * f) 2048 (omega (arith, size))
     ∙ ap (take 2048) (drop-drop (2048 * f) (2048 * from) image)
     ∙ ap (λ n. take 2048 (drop n image)) (sym at)
 

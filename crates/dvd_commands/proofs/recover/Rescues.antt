@@ -6,7 +6,7 @@ use Rattle.coding.specs.Product.{line}
 use Rattle.dvd_capture.specs.Captured.{captured_marks, captured_rows}
 use Rattle.coding.specs.TwoPass.{answers_of}
 use Rattle.dvd_capture.proofs.Columns.{length-answers_of}
-use Rattle.dvd_capture.proofs.Fetching.{part-append, part-behind}
+use Rattle.dvd_capture.proofs.Fetching.{part-append, part-after}
 use Rattle.dvd_layout.specs.Lengths.{has_two_layers}
 use Rattle.dvd_layout.specs.Place.{image_sectors}
 use Rattle.dvd_layout.specs.declared.layout.Layout.{Layout}
@@ -23,7 +23,7 @@ use Rattle.dvd_commands.specs.Recover.{IsRefused}
 use Rattle.dvd_commands.specs.Laws.{GoodFramesOfARefusedBlockAreGiven}
 use Rattle.dvd_commands.specs.Inner.Performing.{sectors_out}
 use Rattle.dvd_commands.proofs.PlanEntries.{has_numbers}
-use Rattle.dvd_commands.proofs.SectorsWritten.{sectors_front, sectors_more}
+use Rattle.dvd_commands.proofs.SectorsWritten.{sectors_prefix, sectors_more}
 use Rattle.dvd_commands.proofs.RecoveredWidths.{length-out}
 use Rattle.dvd_commands.proofs.BlocksWithinBound.{captured-received, recovered_at}
 use Rattle.dvd_commands.proofs.ImageInBlocks.{data_block-made, few-sectors, sector}
@@ -51,12 +51,12 @@ sector-at sectors count f below widths =
     let all : f + 1 + (count - (f + 1)) ≡ count = omega arith in
     let before = length-out sectors f (λ g lt. widths g (omega arith)) in
     let here = widths f below in
-    let front : length (sectors_out f sectors ++ line sectors f) ≡ 2048 * f + 2048 = length-append (sectors_out f sectors) (line sectors f) ∙ omega arith in
+    let prefix_size : length (sectors_out f sectors ++ line sectors f) ≡ 2048 * f + 2048 = length-append (sectors_out f sectors) (line sectors f) ∙ omega arith in
     let is : sectors_out count sectors ≡ (sectors_out f sectors ++ line sectors f) ++ rest =
-    ap (λ n. sectors_out n sectors) (sym all) ∙ sym (sectors_front sectors (f + 1) (count - (f + 1))) ∙ ap (λ l. l ++ rest) (sym (sectors_more sectors f)) in
+    ap (λ n. sectors_out n sectors) (sym all) ∙ sym (sectors_prefix sectors (f + 1) (count - (f + 1))) ∙ ap (λ l. l ++ rest) (sym (sectors_more sectors f)) in
     ap (λ l. take 2048 (drop (2048 * f) l)) is
     ∙ part-append (sectors_out f sectors ++ line sectors f) rest (2048 * f) 2048 (omega arith)
-    ∙ part-behind (sectors_out f sectors) (line sectors f) (2048 * f) 2048 before here
+    ∙ part-after (sectors_out f sectors) (line sectors f) (2048 * f) 2048 before here
 
 -- the image bytes of a block begin what fills it
 sector-filled_block : (image : List ℕ) (f : ℕ) → 2048 * f + 2048 ≤ length image → sector (filled_block image) f ≡ take 2048 (drop (2048 * f) image)
@@ -66,11 +66,11 @@ sector-filled_block image f inside = part-append image (replicate (32768 - lengt
 refused-written : (layout : Layout) (k : ℕ) (entry : BlockPlan) (rows : List (List ℕ)) (marks : List (List Bool)) (steps : List Step) (kind : UnitKind)
     → IsRefused (block_cause rows marks entry) layout k entry rows marks steps kind → written steps ≡ sectors_out (image_sectors layout entry.content) (block_out rows marks entry)
 refused-written layout k entry rows marks steps kind refused =
-    ap written refused.tells ∙ append-nil (sectors_out (image_sectors layout entry.content) (block_out rows marks entry))
+    ap written refused.reports ∙ append-nil (sectors_out (image_sectors layout entry.content) (block_out rows marks entry))
 
 -- the law: each good frame of a refused block is given with the image sector that it was mastered from
 pub given_good : GoodFramesOfARefusedBlockAreGiven
-given_good layout zones form cpr k f entry image own block cause steps kind stands is_image cpr_size image_size is_block size first below good does =
+given_good layout zones form cpr k f entry image own block cause steps kind is_there is_image cpr_size image_size is_block size first below good does =
     let rows = captured_rows form own in
     let marks = captured_marks form own in
     let count = image_sectors layout entry.content in
@@ -78,9 +78,9 @@ given_good layout zones form cpr k f entry image own block cause steps kind stan
     let received = captured-received form own size in
     let made = data_block-made layout entry cpr image is_image cpr_size (omega (arith, image_size, few)) in
     let saved = good_rows-saved entry (has_two_layers layout.shape) (cpr_in entry.area cpr) (sector (filled_block image)) (frames_of layout entry cpr (filled_block image)) block rows marks cause f
-    (has_numbers layout zones k entry stands) made is_block received first (omega arith) (λ q lt. weightless _ _ (good q lt)) in
+    (has_numbers layout zones k entry is_there) made is_block received first (omega arith) (λ q lt. weightless _ _ (good q lt)) in
     let widths = (sixteen-sectors rows marks received.height received.marks_height entry).1 in
-    elim (recovered_at layout zones form k entry own steps kind stands is_image does) [
+    elim (recovered_at layout zones form k entry own steps kind is_there is_image does) [
       | inl given ↦
           let none = agrees-no_cause (answers_of rows marks) given.read.block (length-answers_of rows marks 208 received.height received.marks_height) given.read.agrees in
           cc

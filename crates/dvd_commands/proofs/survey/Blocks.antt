@@ -18,7 +18,7 @@ use Rattle.dvd_loop.specs.declared.ends.UnitKind.{UnitKind}
 use Rattle.dvd_decoding.specs.Reading.{block_cause}
 use Rattle.dvd_decoding.specs.declared.cause.Cause.{Cause}
 use Rattle.dvd_read.specs.declared.fixed.Fixed.{Fixed}
-use Rattle.dvd_report.specs.Survey.{StandsFor, SurveyState, survey_line, surveyed, surveyed_with}
+use Rattle.dvd_report.specs.Survey.{Represents, SurveyState, survey_line, surveyed, surveyed_with}
 use Rattle.dvd_report.specs.declared.counts.Surveyed.{Surveyed}
 use Rattle.dvd_commands.specs.Survey.{IsSurveyed, found_in, found_of, kind_by}
 use Rattle.dvd_commands.specs.Inner.Performing.{IsLineDone}
@@ -38,8 +38,8 @@ pub found_more : (layout : Layout) (zones : Zones) (form : Form) (before : List 
     → slice_get (plan_of layout zones) (length before) ≡ Some entry
     → found_in layout zones form (before ++ own ∷ []) ≡ found_in layout zones form before ++ surveyed (captured_rows form own) (captured_marks form own) entry ∷ []
 unfolding found_in
-found_more layout zones form before own entry stands =
-    ap (map (found_of form)) (zip_more before (plan_of layout zones) (length before) own entry refl stands)
+found_more layout zones form before own entry is_there =
+    ap (map (found_of form)) (zip_more before (plan_of layout zones) (length before) own entry refl is_there)
     ∙ map-append (found_of form) (zip before (plan_of layout zones)) ((own, entry) ∷ [])
 
 -- something is found of each block of the plan
@@ -65,33 +65,33 @@ surveyed_is rows marks entry cause is = ap (surveyed_with rows marks) is
 
 -- what was added of a block that was read with this answer is what is found of it as an entry
 pub stands_more : (after : SurveyState) (old new : Work) (entry : BlockPlan) (answer : Result Fixed Cause) (blocks : List Surveyed)
-    → StandsFor after (blocks ++ surveyed_with (rows_of new) (marks_of_work new) (result_err answer) ∷ [])
+    → Represents after (blocks ++ surveyed_with (rows_of new) (marks_of_work new) (result_err answer) ∷ [])
     → new.received ≡ old.received → new.marks ≡ old.marks
     → OnOk answer (block_cause (rows_of old) (marks_of_work old) entry ≡ None) → IfErr answer (λ own. block_cause (rows_of old) (marks_of_work old) entry ≡ Some own)
-    → StandsFor after (blocks ++ surveyed (rows_of old) (marks_of_work old) entry ∷ [])
-stands_more after old new entry answer blocks stands received marks right refused =
-    subst (λ block. StandsFor after (blocks ++ block ∷ []))
+    → Represents after (blocks ++ surveyed (rows_of old) (marks_of_work old) entry ∷ [])
+stands_more after old new entry answer blocks is_there received marks right refused =
+    subst (λ block. Represents after (blocks ++ block ∷ []))
     (ap (λ r. surveyed_with (received_rows r) (marks_of_work new) (result_err answer)) received
     ∙ ap (λ m. surveyed_with (rows_of old) (marks_rows m) (result_err answer)) marks
     ∙ surveyed_is (rows_of old) (marks_of_work old) entry (result_err answer)
     (cause_is answer (block_cause (rows_of old) (marks_of_work old) entry) right refused))
-    stands
+    is_there
 
 -- Block k of a plan, after those before it, whose captured bytes have these rows and marks.
 module _ (layout : Layout) (zones : Zones) (form : Form) (k : ℕ) (before : List (List ℕ)) (number : length before ≡ k) (own : List ℕ) (entry : BlockPlan)
-    (stands : slice_get (plan_of layout zones) k ≡ Some entry)
+    (is_there : slice_get (plan_of layout zones) k ≡ Some entry)
     (rows : List (List ℕ)) (marks : List (List Bool)) (rows_are : rows ≡ captured_rows form own) (marks_are : marks ≡ captured_marks form own) where
   -- what is found with it
   found_with : found_in layout zones form (before ++ own ∷ []) ≡ found_in layout zones form before ++ surveyed rows marks entry ∷ []
   found_with =
-      found_more layout zones form before own entry (subst (λ n. slice_get (plan_of layout zones) n ≡ Some entry) (sym number) stands)
+      found_more layout zones form before own entry (subst (λ n. slice_get (plan_of layout zones) n ≡ Some entry) (sym number) is_there)
       ∙ ap (λ r. found_in layout zones form before ++ surveyed r (captured_marks form own) entry ∷ []) (sym rows_are)
       ∙ ap (λ m. found_in layout zones form before ++ surveyed rows m entry ∷ []) (sym marks_are)
 
   -- a state of the survey of the blocks found before and of this one is that of all found up to block k
-  pub next_stands : (after : SurveyState) → StandsFor after (found_in layout zones form before ++ surveyed rows marks entry ∷ [])
-      → StandsFor after (found_in layout zones form (before ++ own ∷ []))
-  next_stands after is = subst (StandsFor after) (sym found_with) is
+  pub next_stands : (after : SurveyState) → Represents after (found_in layout zones form before ++ surveyed rows marks entry ∷ [])
+      → Represents after (found_in layout zones form (before ++ own ∷ []))
+  next_stands after is = subst (Represents after) (sym found_with) is
 
   -- and its line, with what it answers, is what is done for block k
   pub line_done : k < length (plan_of layout zones) → (steps : List Step) (kind : UnitKind)
@@ -99,7 +99,7 @@ module _ (layout : Layout) (zones : Zones) (form : Form) (k : ℕ) (before : Lis
   line_done within steps kind does =
       let size : length (found_in layout zones form before) ≡ k = length-found layout zones form before (omega (arith, number, within)) ∙ number in record {
         entry = entry;
-        stands = stands;
+        is_there = is_there;
         writes = does.writes
             ∙ ap (λ n. Write (survey_line n entry (found_in layout zones form before ++ surveyed rows marks entry ∷ [])) ∷ []) size
             ∙ ap (λ blocks. Write (survey_line k entry blocks) ∷ []) (sym found_with);

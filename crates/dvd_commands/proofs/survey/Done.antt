@@ -16,7 +16,7 @@ use Rattle.dvd_commands.proofs.SomeThing.{MaySome}
 -- The line of each block is one.
 pub surveyed_is_one : (layout : Layout) (zones : Zones) (form : Form) (k : ℕ) (before : List (List ℕ)) (own : List ℕ) → MayOne (IsSurveyed layout zones form k before own)
 surveyed_is_one layout zones form k before own steps others kind other p q =
-    let entry : p.entry ≡ q.entry = one_entry (plan_of layout zones) k p.entry q.entry p.stands q.stands in
+    let entry : p.entry ≡ q.entry = one_entry (plan_of layout zones) k p.entry q.entry p.is_there q.is_there in
     let found = found_in layout zones form (before ++ own ∷ []) in (
       p.writes ∙ ap (λ e. Write (survey_line k e found) ∷ []) entry ∙ sym q.writes,
       p.answers ∙ ap (λ e. kind_by (block_cause (captured_rows form own) (captured_marks form own) e)) entry ∙ sym q.answers,
@@ -27,4 +27,4 @@ pub surveyed_some : (layout : Layout) (zones : Zones) (form : Form) (before : Li
     → MaySome (IsSurveyed layout zones form (length before) before own)
 surveyed_some layout zones form before own within =
     let some = some_entry (plan_of layout zones) (length before) within in
-    (_, _, record { entry = some.0; stands = some.1; writes = refl; answers = refl })
+    (_, _, record { entry = some.0; is_there = some.1; writes = refl; answers = refl })

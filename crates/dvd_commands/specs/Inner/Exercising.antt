@@ -29,7 +29,7 @@ pub record CountsOne (rows : List (List ℕ)) (marks : List (List Bool)) (before
   pub failed : after.failed ≡ before.failed + marked (failed_of (answers_of rows marks))
 
 -- After the first n blocks: the generator's state, the counts, and what the last of them left.
-pub record IsBehind (seed n state : ℕ) (counts : Counts) (work : Work) : Type 0 where
+pub record HaveBeenTried (seed n state : ℕ) (counts : Counts) (work : Work) : Type 0 where
   pub state_is : state ≡ state_at seed n
   pub trials : List Trial
   pub count : length trials ≡ n

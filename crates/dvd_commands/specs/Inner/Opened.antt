@@ -6,10 +6,10 @@ use Rattle.dvd_capture.specs.declared.form.Form.TheVariants.{Listed}
 use Rattle.dvd_layout.specs.Lengths.{initial_fault}
 use Rattle.dvd_layout.specs.declared.layout.Layout.{Layout}
 use Rattle.dvd_loop.specs.Machine.{Outcome, ended}
-use Rattle.dvd_loop.specs.Streams.{IsTold}
+use Rattle.dvd_loop.specs.Streams.{AreKnown}
 use Rattle.dvd_loop.specs.declared.ends.LoopEnd.{LoopEnd}
 use Rattle.dvd_ports.specs.Seen.{Seen}
-use Rattle.dvd_commands.specs.Opening.{ComesBehind, IsHeaderOf}
+use Rattle.dvd_commands.specs.Opening.{ComesAfterHeader, IsHeaderOf}
 use Rattle.dvd_words.specs.Settings.{IsLayoutOf, broken_rule}
 use Rattle.dvd_words.specs.declared.settings.Settings.{Settings}
 
@@ -48,5 +48,5 @@ pub record EndsInHeader (settings : Settings) (old new : Seen) (end : LoopEnd) :
   pub own : List ℕ
   pub left : List ℕ
   pub reads : Consumes old.bytes new.bytes own
-  pub told : IsTold new.bytes left
-  pub ends : ComesBehind NoLoop settings own left (ended end)
+  pub known : AreKnown new.bytes left
+  pub ends : ComesAfterHeader NoLoop settings own left (ended end)

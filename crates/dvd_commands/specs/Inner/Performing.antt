@@ -9,11 +9,11 @@ use Rattle.dvd_control.specs.Format.{Fields, control_fault, fields_in}
 use Rattle.dvd_layout.specs.declared.entry.BlockPlan.{BlockPlan}
 use Rattle.dvd_layout.specs.declared.layout.Layout.{Layout}
 use Rattle.dvd_loop.specs.Machine.{EndsWithin, Step}
-use Rattle.dvd_loop.specs.Machine.Step.{Tell, Write}
+use Rattle.dvd_loop.specs.Machine.Step.{Report, Write}
 use Rattle.dvd_loop.specs.declared.ends.UnitKind.{UnitKind}
 use Rattle.dvd_loop.specs.declared.ends.UnitKind.TheVariants.{Bad, Good}
 use Rattle.dvd_commands.specs.Info.{GivesNoFormat}
-use Rattle.dvd_loop.specs.Streams.{IsTold}
+use Rattle.dvd_loop.specs.Streams.{AreKnown}
 use Rattle.dvd_loop.specs.declared.ends.LoopEnd.{LoopEnd}
 use Rattle.dvd_loop.specs.declared.ends.LoopEnd.TheVariants.{ReadFault, Short}
 use Rattle.dvd_merge.specs.Join.{Table, joined}
@@ -37,7 +37,7 @@ pub record EndsCaptured (form : Form) (k : ℕ) (old new : Seen) (end : LoopEnd)
   pub own : List ℕ
   pub left : List ℕ
   pub reads : Consumes old.bytes new.bytes own
-  pub told : IsTold new.bytes left
+  pub known : AreKnown new.bytes left
   pub ends : EndsWithin (captured_part form own) k (length own) left end
 
 -- the first sectors, this many, one after the other
@@ -49,13 +49,13 @@ abbrev pub WritesAlone : List ℕ → UnitKind → List Step → UnitKind → Ty
 WritesAlone bytes is steps kind = (steps ≡ Write bytes ∷ []) × (kind ≡ is)
 
 -- a line is reported, these bytes are written, and the unit is of this kind
-abbrev pub TellsAndWrites : List ℕ → List ℕ → UnitKind → List Step → UnitKind → Type 0
-TellsAndWrites line bytes is steps kind = (steps ≡ Tell line ∷ Write bytes ∷ []) × (kind ≡ is)
+abbrev pub ReportsAndWrites : List ℕ → List ℕ → UnitKind → List Step → UnitKind → Type 0
+ReportsAndWrites line bytes is steps kind = (steps ≡ Report line ∷ Write bytes ∷ []) × (kind ≡ is)
 
 -- what is done for a block that is refused for this cause
 abbrev pub IsRefusedFor : Layout → ℕ → BlockPlan → List (List ℕ) → List (List Bool) → Cause → List Step → UnitKind → Type 0
 IsRefusedFor layout k entry rows marks cause =
-    TellsAndWrites (damage_line k entry cause (saved_in rows marks entry)) (sectors_out (image_sectors layout entry.content) (block_out rows marks entry)) Bad
+    ReportsAndWrites (damage_line k entry cause (saved_in rows marks entry)) (sectors_out (image_sectors layout entry.content) (block_out rows marks entry)) Bad
 
 -- what rounds give of a block that two passes refused: these bytes begin with its image sectors, and its frames are
 -- right
@@ -66,7 +66,7 @@ pub record IsFoundBy (layout : Layout) (entry : BlockPlan) (rows : List (List �
   pub first : take (2048 * image_sectors layout entry.content) bytes ≡ sectors_out (image_sectors layout entry.content) sectors
 
 -- a block of control data has this physical format
-pub record Tells (entry : BlockPlan) (rows : List (List ℕ)) (marks : List (List Bool)) (format : Fields) : Type 0 where
+pub record GivesFormat (entry : BlockPlan) (rows : List (List ℕ)) (marks : List (List Bool)) (format : Fields) : Type 0 where
   pub sectors : List (List ℕ)
   pub read : IsReadAs rows marks entry sectors
   pub valid : control_fault (line sectors 0) ≡ None

@@ -14,8 +14,8 @@ pub record IsColumnPut (j : ℕ) (word : List ℕ) (old new : List (List ℕ)) :
   pub others : (i k : ℕ) → i < 208 → k < 182 → k ≢ j → place new i k ≡ place old i k
 
 -- a row that isn't listed as marked has no marks
-abbrev pub TellsMarked : List (List Bool) → List Bool → Type 0
-TellsMarked marks marked = (i : ℕ) → i < 208 → slice_index_or marked i false ≡ false → marks_line marks i ≡ replicate 182 false
+abbrev pub MarksListed : List (List Bool) → List Bool → Type 0
+MarksListed marks marked = (i : ℕ) → i < 208 → slice_index_or marked i false ≡ false → marks_line marks i ≡ replicate 182 false
 
 -- the mark at place j of a row after those of the answered columns were cleared
 abbrev pub mark_left : List Bool → List Bool → ℕ → Bool

@@ -56,6 +56,6 @@ reports: 64 bytes a call, call 0 fails               -> ReportFault, 16 sectors:
 ";
 
 #[test]
-fn a_fault_leaves_the_front_of_what_is_written(rt: HostRuntime) -> Held {
+fn a_fault_leaves_a_prefix_of_what_is_written(rt: HostRuntime) -> Held {
     hold(&rt, FAULTS)
 }

@@ -51,6 +51,6 @@ run: info --initial {12032, 4294967295} -> Setting, 0 bytes: setting: initial to
 ";
 
 #[test]
-fn the_first_control_block_that_is_left_tells_the_format(rt: HostRuntime) -> Held {
+fn the_first_control_block_that_is_left_gives_the_format(rt: HostRuntime) -> Held {
     hold(&rt, DISKS)
 }

@@ -78,6 +78,6 @@ output: image of 4096 sectors
 ";
 
 #[test]
-fn lines_tell_what_stands_in_a_stream(rt: HostRuntime) -> Held {
+fn lines_say_what_is_in_a_stream(rt: HostRuntime) -> Held {
     hold(&rt, SURVEYS)
 }

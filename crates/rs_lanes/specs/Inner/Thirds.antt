@@ -8,8 +8,8 @@ use Rattle.rs_code.specs.Inner.Polynomials.{sum_of, scaled}
 use Rattle.coding.specs.Rows.{place}
 
 -- a word after this many zeros
-unfoldable pub behind_zeros : ℕ → List ℕ → List ℕ
-behind_zeros count word = replicate count 0 ++ word
+unfoldable pub after_zeros : ℕ → List ℕ → List ℕ
+after_zeros count word = replicate count 0 ++ word
 
 -- the pieces 0 to i of a word, each of this size, added up to one by Horner's rule in the factor
 unfoldable pub folded : ℕ → ℕ → List ℕ → ℕ → List ℕ

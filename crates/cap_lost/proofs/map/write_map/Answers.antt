@@ -24,11 +24,11 @@ returns-in_err-at g c =
     let mid = g.K.Sink.seen c.loop-rest.out in
     let new = g.K.Sink.seen c.write_extents.new.out in
     let whole = map_text lost.extents.items lost.written c.args.total in
-    let front = c.split_at.result.0.now in
+    let prefix = c.split_at.result.0.now in
     let back = c.split_at.result.1.now in
-    let cut = lines_cut c.loop-rest.at lost.written c.args.total _ c.loop-rest.rest.now front back c.split_at.ensures.front c.split_at.ensures.back in
+    let cut = lines_cut c.loop-rest.at lost.written c.args.total _ c.loop-rest.rest.now prefix back c.split_at.ensures.front c.split_at.ensures.back in
     writes_failed c.from_residual-in_err-at.result whole old new c.from_residual-in_err-at.ensures.0
-    (begun_then old mid new whole (extent_lines c.loop-rest.at front) (lines_from (last_end c.loop-rest.at front) back lost.written c.args.total)
+    (begun_then old mid new whole (extent_lines c.loop-rest.at prefix) (lines_from (last_end c.loop-rest.at prefix) back lost.written c.args.total)
     (subst (λ l. IsUnwritten whole l old mid) cut c.loop-rest.invariant) c.in_err-at.ensures.begun)
     (fails_after old mid new c.loop-rest.invariant.steady c.in_err-at.ensures.cause.failed)
 
@@ -39,11 +39,11 @@ loop-rest-preserved g c =
     let mid = g.K.Sink.seen c.loop-rest.out in
     let new = g.K.Sink.seen c.write_extents.new.out in
     let whole = map_text lost.extents.items lost.written c.args.total in
-    let front = c.split_at.result.0.now in
+    let prefix = c.split_at.result.0.now in
     let back = c.split_at.result.1.now in
-    let cut = lines_cut c.loop-rest.at lost.written c.args.total _ c.loop-rest.rest.now front back c.split_at.ensures.front c.split_at.ensures.back in
+    let cut = lines_cut c.loop-rest.at lost.written c.args.total _ c.loop-rest.rest.now prefix back c.split_at.ensures.front c.split_at.ensures.back in
     subst (λ at. IsUnwritten whole (lines_from at back lost.written c.args.total) old new) (sym c.in_ok-at.ensures.end)
-    (more_written old mid new whole (extent_lines c.loop-rest.at front) (lines_from (last_end c.loop-rest.at front) back lost.written c.args.total)
+    (more_written old mid new whole (extent_lines c.loop-rest.at prefix) (lines_from (last_end c.loop-rest.at prefix) back lost.written c.args.total)
     (subst (λ l. IsUnwritten whole l old mid) cut c.loop-rest.invariant) c.in_ok-at.ensures.written c.in_ok-at.ensures.cause.steady)
 
 pub returns : goal.returns

@@ -13,5 +13,5 @@ returns-in-Ok g c = inl (record {
   writes =
       subst (λ total. IsWritten (map_text c.in-Ok.lost.extents.items c.in-Ok.lost.written total) (g.K.Sink.seen c.args.out.now)
       (g.K.Sink.seen c.write_map.new.out) c.write_map.result) c.total.ensures c.write_map.ensures;
-  told = rw (sym c.map_end.ensures.status, sym c.map_end.ensures.line) c.end_with.ensures;
+  reported = rw (sym c.map_end.ensures.status, sym c.map_end.ensures.line) c.end_with.ensures;
 })

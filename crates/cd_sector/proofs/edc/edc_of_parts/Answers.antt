@@ -9,10 +9,10 @@ use Rattle.cd_sector.proofs.edc.edc_of_parts.Goals as goal
 
 pub returns : goal.returns
 returns c =
-    let front : List ℕ = c.args.front.now in
+    let prefix : List ℕ = c.args.prefix.now in
     let back : List ℕ = c.args.back.now in
-    let each : All IsByte (front ++ back) =
-    All-append IsByte front back (All-from_get_or IsByte front 0 (λ i within. omega (arith, c.type_inv.front i))) (All-from_get_or IsByte back 0 (λ i within. omega (arith, c.type_inv.back i))) in
+    let each : All IsByte (prefix ++ back) =
+    All-append IsByte prefix back (All-from_get_or IsByte prefix 0 (λ i within. omega (arith, c.type_inv.prefix i))) (All-from_get_or IsByte back 0 (λ i within. omega (arith, c.type_inv.back i))) in
     c.to_le_bytes.ensures
-    ∙ ap (to_le_bytes w32) (c.with_bytes-2.ensures ∙ ap (after_reading back) c.with_bytes.ensures ∙ after_reading-append front back 0)
-    ∙ edc_read (front ++ back) each
+    ∙ ap (to_le_bytes w32) (c.with_bytes-2.ensures ∙ ap (after_reading back) c.with_bytes.ensures ∙ after_reading-append prefix back 0)
+    ∙ edc_read (prefix ++ back) each

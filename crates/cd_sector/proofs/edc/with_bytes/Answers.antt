@@ -15,7 +15,7 @@ loop-byte-init c =
     ap (after_reading others) c.with_chunks-next.ensures
     ∙ after_reading-append (concat chunks) others c.args.register
     ∙ ap (λ (l : List ℕ). after_reading l c.args.register)
-    (ap₂ (λ (front : List (List ℕ)) (back : List ℕ). concat front ++ back) c.as_chunks.ensures.front c.as_chunks.ensures.back ∙ chunks_joined (length bytes / 16) bytes)
+    (ap₂ (λ (prefix : List (List ℕ)) (back : List ℕ). concat prefix ++ back) c.as_chunks.ensures.front c.as_chunks.ensures.back ∙ chunks_joined (length bytes / 16) bytes)
 
 pub loop-byte-preserved : goal.loop-byte-preserved
 loop-byte-preserved c =

@@ -13,11 +13,11 @@ overflow_sub-marks c = omega (arith, c.place.ensures.value, sector_place-q c.arg
 pub returns : goal.returns
 returns c = λ read lost_are.
     marks_told read c.args.word c.args.lost.now c.loop-m.marks c.loop-m.invariant.size lost_are
-    (λ m below. c.loop-m.invariant.told m (omega arith)) (λ m own. c.loop-m.invariant.rest m (omega (arith, c.loop-m.auto)))
+    (λ m below. c.loop-m.invariant.said m (omega arith)) (λ m own. c.loop-m.invariant.rest m (omega (arith, c.loop-m.auto)))
 
 pub loop-m-init : goal.loop-m-init
 loop-m-init c = record {
   size = refl;
-  told = λ m below. absurd (omega arith);
+  said = λ m below. absurd (omega arith);
   rest = λ m _. no_mark 45 m;
 }

@@ -6,6 +6,6 @@ use Rattle.cd_sector.proofs.repairing.marks.Given as goal
 abbrev pub invariant-loop-m : goal.invariant-loop-m
 invariant-loop-m l = record {
   size : length l.marks ≡ 45;
-  told : (m : ℕ) → m < l.m → get_or l.marks m false ≡ get_or l.lost ((sector_place l.word m - 12) % 86) false;
+  said : (m : ℕ) → m < l.m → get_or l.marks m false ≡ get_or l.lost ((sector_place l.word m - 12) % 86) false;
   rest : (m : ℕ) → l.m ≤ m → get_or l.marks m false ≡ false;
 }

@@ -18,7 +18,7 @@ copy_from_slice-requires c = length-take-le 12 c.repair_words.new.sector (omega 
 
 pub check_contents-requires-clause-words : goal.check_contents-requires-clause-words
 check_contents-requires-clause-words c = λ word below.
-    subst (λ (front : List ℕ). IsRight (front ++ drop 12 c.repair_words.new.sector) word) (sym c.copy_from_slice.ensures.after)
+    subst (λ (prefix : List ℕ). IsRight (prefix ++ drop 12 c.repair_words.new.sector) word) (sym c.copy_from_slice.ensures.after)
     (sync_right c.repair_words.new.sector word below (c.in_default.ensures.none refl word below))
 
 pub returns-in_err-check_contents-clause-cause : goal.returns-in_err-check_contents-clause-cause

@@ -12,7 +12,7 @@ use Rattle.cd_sector.proofs.repairing.repair_p_words.Goals.{then-faults-word-ne0
 use Rattle.cd_sector.proofs.repairing.repair_p_words.Goals as goal
 
 pub loop-word-init : goal.loop-word-init
-loop-word-init c = record { size = omega arith; words = p_words-none c.args.sector.now; lost_size = refl; told = λ word below. absurd (omega arith); rest = λ word _. no_mark 86 word }
+loop-word-init c = record { size = omega arith; words = p_words-none c.args.sector.now; lost_size = refl; said = λ word below. absurd (omega arith); rest = λ word _. no_mark 86 word }
 
 pub repair_word-requires : goal.repair_word-requires
 repair_word-requires c = (omega arith, (omega arith, (omega arith, sym (word_size-p c.loop-word.word (omega arith)))))
@@ -34,10 +34,10 @@ loop-word-preserved c =
             lost_size = ap length w.lost-is ∙ length-set was n lost ∙ before.lost_size;
             rest = λ word above.
                 ap (λ (l : List Bool). get_or l word false) w.lost-is ∙ get_or-set_other was n word lost false (omega arith) ∙ before.rest word (omega arith);
-            told = λ word below.
+            said = λ word below.
                 ap (λ (l : List Bool). get_or l word false) w.lost-is
                 ∙ below_more (λ (word : ℕ). get_or (set was n lost) word false ≡ is_lost read word) n
-                (λ v under. get_or-set_other was n v lost false (omega arith) ∙ before.told v under)
+                (λ v under. get_or-set_other was n v lost false (omega arith) ∙ before.said v under)
                 (get_or-set_same was n lost false (omega (arith, before.lost_size)) ∙ is) word below;
           }
       | else-faults-word-ne0 w ↦
@@ -47,9 +47,9 @@ loop-word-preserved c =
             words = w.sector-is ∙ before.words ∙ kept_p read n (omega arith) (omega arith) right;
             lost_size = ap length w.lost-is ∙ before.lost_size;
             rest = λ word above. ap (λ (l : List Bool). get_or l word false) w.lost-is ∙ before.rest word (omega arith);
-            told = λ word below.
+            said = λ word below.
                 ap (λ (l : List Bool). get_or l word false) w.lost-is
-                ∙ below_more (λ (v : ℕ). get_or was v false ≡ is_lost read v) n before.told
+                ∙ below_more (λ (v : ℕ). get_or was v false ≡ is_lost read v) n before.said
                 (before.rest n (omega arith) ∙ sym (found_p read n (omega arith) right)) word below;
           }
     ]

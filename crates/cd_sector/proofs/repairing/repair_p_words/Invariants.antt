@@ -8,6 +8,6 @@ invariant-loop-word l = record {
   size : length l.sector ≡ 2352;
   words : l.sector ≡ with_p_words l.fn.sector l.word;
   lost_size : length l.lost ≡ 86;
-  told : (word : ℕ) → word < l.word → get_or l.lost word false ≡ is_lost l.fn.sector word;
+  said : (word : ℕ) → word < l.word → get_or l.lost word false ≡ is_lost l.fn.sector word;
   rest : (word : ℕ) → l.word ≤ word → get_or l.lost word false ≡ false;
 }

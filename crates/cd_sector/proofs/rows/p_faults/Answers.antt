@@ -8,5 +8,5 @@ pub returns-clause-right : goal.returns-clause-right
 returns-clause-right c = λ word below.
     let rows = c.p_rows.result.now in
     let right = column_right c.args.sector.now rows word word (omega (arith, c.p_rows.ensures.size, word_size-p word below)) (λ m inside. c.p_rows.ensures.bytes m word (omega arith) below) in
-    let tells = c.faults.ensures.codewords word below in
-    ((λ zero_is. right.0 (tells.0 zero_is)), (λ is. tells.1 (right.1 is)))
+    let says = c.faults.ensures.codewords word below in
+    ((λ zero_is. right.0 (says.0 zero_is)), (λ is. says.1 (right.1 is)))

@@ -8,5 +8,5 @@ pub returns-clause-right : goal.returns-clause-right
 returns-clause-right c = λ n below.
     let rows = c.q_rows.result in
     let right = column_right c.args.sector.now rows (86 + n) n (omega (arith, word_size-q (86 + n) (omega arith))) (λ m inside. c.q_rows.ensures.bytes m n (omega arith) below) in
-    let tells = c.faults.ensures.codewords n below in
-    ((λ zero_is. right.0 (tells.0 zero_is)), (λ is. tells.1 (right.1 is)))
+    let says = c.faults.ensures.codewords n below in
+    ((λ zero_is. right.0 (says.0 zero_is)), (λ is. says.1 (right.1 is)))

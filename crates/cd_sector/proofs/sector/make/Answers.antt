@@ -2,12 +2,12 @@
 use Rattle.std.proofs.Common.{ℕ, ◌<◌, List, ◌∙◌, arith}
 use Rattle.cd_sector.specs.Words.{sector_place, IsRight}
 use Rattle.cd_sector.proofs.Places.{word_size-p, sector_place-p, kept_right}
-use Rattle.cd_sector.proofs.Assembly.{same_front, all_words}
+use Rattle.cd_sector.proofs.Assembly.{same_prefix, all_words}
 use Rattle.cd_sector.proofs.sector.make.Goals as goal
 
 pub returns : goal.returns
 returns c =
-    let front : List ℕ = c.set_data.new.out in
+    let prefix : List ℕ = c.set_data.new.out in
     let p_set : List ℕ = c.set_p_words.new.sector in
     let whole : List ℕ = c.set_q_words.new.sector in
     let p_right : (word : ℕ) → word < 86 → IsRight whole word = λ word below.
@@ -16,8 +16,8 @@ returns c =
     (c.set_p_words.ensures.right word below) in
     record {
       size = c.set_q_words.ensures.size;
-      begins = same_front 2076 whole front (omega (arith, c.set_q_words.ensures.size)) (omega (arith, c.set_data.ensures.size))
+      begins = same_prefix 2076 whole prefix (omega (arith, c.set_q_words.ensures.size)) (omega (arith, c.set_data.ensures.size))
           (λ at below. c.set_q_words.ensures.kept at (omega arith) ∙ c.set_p_words.ensures.kept at below)
-          ∙ c.set_data.ensures.front;
+          ∙ c.set_data.ensures.prefix;
       words = all_words (IsRight whole) p_right c.set_q_words.ensures.right;
     }

@@ -3,8 +3,8 @@ use Rattle.std.proofs.Common.{arith}
 use Rattle.cd_sector.proofs.Assembly.{data_written}
 use Rattle.cd_sector.proofs.sector.set_data.Goals as goal
 
-pub returns-clause-front : goal.returns-clause-front
-returns-clause-front c =
+pub returns-clause-prefix : goal.returns-clause-prefix
+returns-clause-prefix c =
     data_written c.args.address c.args.user.now c.header.result c.cd_edc-check.result
     c.put.new.out c.put-2.new.out c.put-3.new.out c.put-4.new.out c.put-5.new.out c.put-6.new.out
     (omega arith) (omega arith) c.header.ensures

@@ -9,7 +9,7 @@ use Rattle.dvd_block.proofs.Recorded.{recorded, recorded-more, recorded-none, re
 use Rattle.dvd_block.proofs.block.record_rows.Goals as goal
 
 pub loop-m-init : goal.loop-m-init
-loop-m-init c = record { size = omega arith; front = sym (recorded-none 0 c.args.rows.now) }
+loop-m-init c = record { size = omega arith; prefix = sym (recorded-none 0 c.args.rows.now) }
 
 pub loop-m-preserved : goal.loop-m-preserved
 loop-m-preserved c =
@@ -24,8 +24,8 @@ loop-m-preserved c =
     let from : 0 + m ≡ m = omega arith in
     record {
       size = length-part_written (182 * m) width bytes part (omega (arith, c.loop-m.invariant.size)) (omega arith) ∙ c.loop-m.invariant.size;
-      front = take-put_mid (182 * m) width bytes part (182 * (m + 1)) (omega arith) (omega (arith, c.loop-m.invariant.size))
-          ∙ ap (λ (l : List ℕ). l ++ part) c.loop-m.invariant.front
+      prefix = take-put_mid (182 * m) width bytes part (182 * (m + 1)) (omega arith) (omega (arith, c.loop-m.invariant.size))
+          ∙ ap (λ (l : List ℕ). l ++ part) c.loop-m.invariant.prefix
           ∙ ap (λ (l : List ℕ). recorded 0 m rows ++ l) (part_is ∙ ap (λ (k : ℕ). line rows (row_at k)) (sym from))
           ∙ sym (recorded-more 0 m rows);
     }
@@ -35,4 +35,4 @@ returns c =
     let rows : List (List ℕ) = c.args.rows.now in
     let all : c.loop-m.m ≡ 208 = omega (arith, c.loop-m.auto.m-end, c.loop-m-test.false) in
     sym (take_all (182 * c.loop-m.m) c.loop-m.bytes (omega (arith, c.loop-m.invariant.size, all)))
-    ∙ c.loop-m.invariant.front ∙ ap (λ m. recorded 0 m rows) all ∙ sym (recording-is rows)
+    ∙ c.loop-m.invariant.prefix ∙ ap (λ m. recorded 0 m rows) all ∙ sym (recording-is rows)

@@ -6,5 +6,5 @@ use Rattle.dvd_block.proofs.Recorded.{recorded}
 abbrev pub invariant-loop-m : goal.invariant-loop-m
 invariant-loop-m l = record {
   size : length l.bytes ≡ 37_856;
-  front : take (182 * l.m) l.bytes ≡ recorded 0 l.m l.rows;
+  prefix : take (182 * l.m) l.bytes ≡ recorded 0 l.m l.rows;
 }

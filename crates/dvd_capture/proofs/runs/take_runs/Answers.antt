@@ -56,7 +56,7 @@ returns-in_ok-check_start-2-clause-taken c = λ head count size first.
       runs = runs-same head c.args.fields.now count c.loop-i.taken.runs c.loop-i.i c.loop-i.taken.end (mark_of (marks_rows c.loop-i.marks)) c.loop-i.invariant.count (c.loop-i.invariant.runs head count size first);
       whole = omega (arith, over, most, same);
       few = omega (arith, over, most, same);
-      start = λ stands. subst (λ v. (v < 37_856) × (0 < c.loop-i.taken.runs → c.loop-i.taken.end < v)) c.field.ensures.value c.in_ok-check_start-2.ensures.valid;
+      start = λ is_there. subst (λ v. (v < 37_856) × (0 < c.loop-i.taken.runs → c.loop-i.taken.end < v)) c.field.ensures.value c.in_ok-check_start-2.ensures.valid;
     }
 
 pub returns-else-fields-ge2-clause-taken : goal.returns-else-fields-ge2-clause-taken
@@ -65,7 +65,7 @@ returns-else-fields-ge2-clause-taken c = λ head count size first.
       runs = runs-same head c.args.fields.now count c.loop-i.taken.runs c.loop-i.i c.loop-i.taken.end (mark_of (marks_rows c.loop-i.marks)) c.loop-i.invariant.count (c.loop-i.invariant.runs head count size first);
       whole = omega (arith, over, most, same);
       few = omega (arith, over, most, same);
-      start = λ stands. absurd (omega (arith, over, most, same, none, stands));
+      start = λ is_there. absurd (omega (arith, over, most, same, none, is_there));
     }
 
 pub returns-in_err-check_start-clause-bad : goal.returns-in_err-check_start-clause-bad

@@ -3,7 +3,7 @@ use Rattle.std.proofs.Common.{◌≡◌, ◌∙◌, ◌++◌, List, ℕ, [], sym
 use Rattle.std.proofs.lemmas.List.{nil_from_length}
 use Rattle.std.specs.Io.KnownBytes.{Appends}
 use Rattle.std.specs.Slice.Iter.{chunks_rest}
-use Rattle.dvd_capture.proofs.ListedWritten.{prefix-behind}
+use Rattle.dvd_capture.proofs.ListedWritten.{prefix-after}
 use Rattle.dvd_ports.specs.Whole.{AppendsPrefix}
 use Rattle.dvd_ports.proofs.KnownLemmas.{Appends-none, Appends-then}
 use Rattle.dvd_ports.proofs.StopLemmas.{fails_after, goes_on, unmoved}
@@ -34,7 +34,7 @@ returns-in_err-write_whole g c =
     let (done, before, whole) = c.loop-sector.invariant.4 in
     let split : done ++ (c.in-Some.sector.now ++ chunks_rest c.next.new.self) ≡ c.args.sectors.now = ap (λ (l : List ℕ). done ++ l) (sym c.in-Some.ensures.steps.1.0) ∙ whole in
     writes_failed c.from_residual.result _ _ _ c.from_residual.ensures.0
-    (subst (AppendsPrefix _ _) split (prefix-behind _ _ _ done c.in-Some.sector.now (chunks_rest c.next.new.self) before c.in_err-write_whole.ensures.begun))
+    (subst (AppendsPrefix _ _) split (prefix-after _ _ _ done c.in-Some.sector.now (chunks_rest c.next.new.self) before c.in_err-write_whole.ensures.begun))
     (fails_after _ _ _ c.loop-sector.invariant.3 c.in_err-write_whole.ensures.cause.failed)
 
 pub returns : goal.returns

@@ -2,11 +2,11 @@
 use Rattle.std.proofs.Common.{◌≡◌, ◌-◌, rules, refl, ap, subst, sym}
 use Rattle.dvd_loop.proofs.Silent.{AreWrites, beside, one_write}
 use Rattle.dvd_commands.specs.Exercise.{IsLeft, exercise_units}
-use Rattle.dvd_commands.proofs.exercise.Trials.{none_behind}
+use Rattle.dvd_commands.proofs.exercise.Trials.{none_after}
 use Rattle.dvd_commands.proofs.exercise.follow_by.Goals as goal
 
 pub run_units-requires : goal.run_units-requires
-run_units-requires g c = (none_behind _ _ _ _ c.rand_of.ensures refl refl refl, c.requires.adder, c.requires.reader)
+run_units-requires g c = (none_after _ _ _ _ c.rand_of.ensures refl refl refl, c.requires.adder, c.requires.reader)
 
 pub returns-clause-follows : goal.returns-clause-follows
 returns-clause-follows g c = λ report.
@@ -15,7 +15,7 @@ returns-clause-follows g c = λ report.
     (record {
       opens = tt;
       does = λ k before own steps kind done. subst AreWrites (sym done.0) tt;
-      closes = λ before steps told. one_write steps _ told.writes;
+      closes = λ before steps known. one_write steps _ known.writes;
     })
     _ _ _ _ report c.run_units.result c.run_units.ensures.follows
 

@@ -16,7 +16,7 @@ returns-in-Ok-2-clause-header g c =
       own = bytes;
       left = (left_of new.bytes).0;
       reads = subst (Consumes old.bytes new.bytes) (take_all c.in-Ok.count bytes (omega (arith, size, enough))) c.in-Ok.ensures.taken;
-      told = (left_of new.bytes).1;
+      known = (left_of new.bytes).1;
       answers = c.layout_in.ensures (left_of new.bytes).0;
     }
 
@@ -34,6 +34,6 @@ returns-in-Err-clause-header g c =
       own = begun.taken;
       left = (left_of new.bytes).0;
       reads = begun.loses;
-      told = (left_of new.bytes).1;
+      known = (left_of new.bytes).1;
       answers = let fewer = begun.fewer in omega (arith, fewer, size);
     }

@@ -24,7 +24,7 @@ returns-in-BadHeader-clause-ended g c =
       own = header.own;
       left = header.left;
       reads = header.reads;
-      told = header.told;
+      known = header.known;
       ends = inr (header.answers.0, inl (c.in-BadHeader.at, header.answers.1 c.args.settings.now, refl));
     }
 

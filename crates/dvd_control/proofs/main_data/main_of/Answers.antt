@@ -1,7 +1,7 @@
 -- The proof of `main_of` in src/main_data.rt.
 use Rattle.std.proofs.Common.{◌∙◌, ap}
 use Rattle.dvd_control.specs.Format.{format_bytes}
-use Rattle.dvd_control.proofs.LeadIns.{control-has_lead_in, control_first, control_behind, reference_bytes, zero_bytes}
+use Rattle.dvd_control.proofs.LeadIns.{control-has_lead_in, control_first, control_after, reference_bytes, zero_bytes}
 use Rattle.dvd_control.proofs.main_data.main_of.Goals as goal
 
 pub of_layout-requires : goal.of_layout-requires
@@ -19,4 +19,4 @@ returns-in-Control c =
     ∙ control_first c.args.layout.now c.args.plan.now c.args.f c.in-Control.is c.if-f-eq0.true
 
 pub returns-in-Control-2 : goal.returns-in-Control-2
-returns-in-Control-2 c = control_behind c.args.layout.now c.args.plan.now c.args.f c.in-Control.is c.if-f-eq0.false
+returns-in-Control-2 c = control_after c.args.layout.now c.args.plan.now c.args.f c.in-Control.is c.if-f-eq0.false

@@ -18,7 +18,7 @@ returns-clause-state c =
     columns-all failed state c.loop-j.rows (marks_of_rows marks) c.loop-j.invariant.height (length-map marks marks_of_row ∙ c.take_marks.ensures.height)
     (λ i below. length-line marks i (omega (arith, c.take_marks.ensures.height)))
     (subst (AreStepped failed state c.loop-j.rows) last c.loop-j.invariant.part)
-    (marks-left failed state c.loop-j.answered (marks_of_rows marks) (subst (AreTold failed state c.loop-j.answered) last c.loop-j.invariant.told) c.take_marks.ensures.taken)
+    (marks-left failed state c.loop-j.answered (marks_of_rows marks) (subst (AreTold failed state c.loop-j.answered) last c.loop-j.invariant.said) c.take_marks.ensures.taken)
 
 pub returns-clause-answered : goal.returns-clause-answered
 unfolding are_answered
@@ -40,7 +40,7 @@ loop-j-preserved c =
       height = c.answer_column-is_answered.array_long;
       size = length-set c.loop-j.answered c.loop-j.j c.answer_column-is_answered.result ∙ c.loop-j.invariant.size;
       part = columns-next failed state rows c.answer_column-is_answered.new.rows c.loop-j.j height rows_height (omega arith) answer.column answer.wide c.loop-j.invariant.part;
-      told = told-next failed state c.loop-j.answered c.loop-j.j c.answer_column-is_answered.result c.loop-j.invariant.size (omega arith) found c.loop-j.invariant.told;
+      said = told-next failed state c.loop-j.answered c.loop-j.j c.answer_column-is_answered.result c.loop-j.invariant.size (omega arith) found c.loop-j.invariant.said;
       all = ap (λ b. b && c.answer_column-is_answered.result) c.loop-j.invariant.all
           ∙ ap (λ b. list_all (λ j. is_some (column_near failed state j)) (range_with_len 0 c.loop-j.j) && b) found
           ∙ sym (list_all-next (λ j. is_some (column_near failed state j)) c.loop-j.j);

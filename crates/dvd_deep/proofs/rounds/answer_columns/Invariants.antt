@@ -11,6 +11,6 @@ invariant-loop-j l = record {
   height : length l.rows ≡ 208;
   size : length l.answered ≡ 182;
   part : AreStepped l.failed (buffered_state l.fn.rows l.fn.marks) l.rows l.j;
-  told : AreTold l.failed (buffered_state l.fn.rows l.fn.marks) l.answered l.j;
+  said : AreTold l.failed (buffered_state l.fn.rows l.fn.marks) l.answered l.j;
   all : l.all ≡ list_all (λ j. is_some (column_near l.failed (buffered_state l.fn.rows l.fn.marks) j)) (range_with_len 0 l.j);
 }

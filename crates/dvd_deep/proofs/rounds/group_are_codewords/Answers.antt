@@ -7,9 +7,9 @@ use Rattle.dvd_deep.proofs.rounds.group_are_codewords.Goals as goal
 
 pub returns : goal.returns
 returns c =
-    let told = c.row_values.ensures in
+    let said = c.row_values.ensures in
     let row : ℕ → List ℕ = λ n. line c.args.rows.now (c.args.top + n) in
-    let tested = codewords_tested 182 10 row c.row_values.result c.any_of.result told.sizes told.bytes told.values c.any_of.ensures.zeros in (
+    let tested = codewords_tested 182 10 row c.row_values.result c.any_of.result said.sizes said.bytes said.values c.any_of.ensures.zeros in (
       (λ yes n below. codeword-vanishes 182 10 (row n) (tested.0 (c.are_zeros.ensures.0 yes) n below)),
-      (λ passes. c.are_zeros.ensures.1 (tested.1 (λ n below. vanishing-codeword 182 10 (row n) (told.sizes n below) (told.bytes n below) (passes n below)))),
+      (λ passes. c.are_zeros.ensures.1 (tested.1 (λ n below. vanishing-codeword 182 10 (row n) (said.sizes n below) (said.bytes n below) (passes n below)))),
     )

@@ -8,5 +8,5 @@ use Rattle.dvd_deep.proofs.rounds.marked_rows.Given as goal
 abbrev pub invariant-loop-i : goal.invariant-loop-i
 invariant-loop-i l = record {
   size : length l.marked ≡ 208;
-  told : (k : ℕ) → k < l.i → get_or l.marked k false ≡ false → marks_line (marks_of_rows l.marks) k ≡ replicate 182 false;
+  said : (k : ℕ) → k < l.i → get_or l.marked k false ≡ false → marks_line (marks_of_rows l.marks) k ≡ replicate 182 false;
 }

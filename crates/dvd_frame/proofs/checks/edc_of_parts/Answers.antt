@@ -6,4 +6,4 @@ use Rattle.dvd_frame.proofs.checks.edc_of_parts.Goals as goal
 pub returns : goal.returns
 returns c =
     c.write_u32.ensures
-    ∙ edc_read c.divide_parts-register.result (c.args.front.now ++ c.args.back.now) (omega arith) c.divide_parts-register.ensures
+    ∙ edc_read c.divide_parts-register.result (c.args.prefix.now ++ c.args.back.now) (omega arith) c.divide_parts-register.ensures

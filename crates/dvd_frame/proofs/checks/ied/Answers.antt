@@ -8,9 +8,9 @@ use Rattle.dvd_frame.proofs.checks.ied.Goals as goal
 pub returns-clause-codeword : goal.returns-clause-codeword
 returns-clause-codeword c =
     let six : List ℕ = c.encode.new.word in
-    let front : take 4 six ≡ word_bytes c.args.id =
+    let starts : take 4 six ≡ word_bytes c.args.id =
     c.encode.ensures.begins ∙ ap (λ (b : List ℕ). get_or b 0 0 ∷ get_or b 1 0 ∷ get_or b 2 0 ∷ get_or b 3 0 ∷ []) c.bytes.ensures in
-    subst (IsCodeword 6 2) (last_two six (word_bytes c.args.id) c.encode.array_long front) c.encode.ensures.codeword
+    subst (IsCodeword 6 2) (last_two six (word_bytes c.args.id) c.encode.array_long starts) c.encode.ensures.codeword
 
 pub returns-clause-value : goal.returns-clause-value
 returns-clause-value c =

@@ -2,7 +2,7 @@
 use Rattle.std.proofs.Common.{refl, map, arith}
 use Rattle.std.specs.List.{range_with_len}
 use Rattle.std.proofs.lemmas.Slice.Eq.{bytes_eq-Decides}
-use Rattle.coding.specs.BitDivision.{plus_front, remainder_by}
+use Rattle.coding.specs.BitDivision.{plus_prefix, remainder_by}
 use Rattle.coding.specs.Bits.{bits}
 use Rattle.dvd_frame.specs.Inner.Registers.{byte_remainder}
 use Rattle.dvd_frame.proofs.WordDivision.{word_remainder}
@@ -10,7 +10,7 @@ use Rattle.dvd_frame.proofs.remainders.remainder_of_word.Goals as goal
 
 -- computed over all 256 entries of each table
 pub returns : goal.returns
-unfolding byte_remainder remainder_by plus_front bits
+unfolding byte_remainder remainder_by plus_prefix bits
 returns c =
     word_remainder c.args.word c.entry.result c.entry-2.result c.entry-3.result c.entry-4.result c.entry-5.result c.entry-6.result c.entry-7.result c.entry-8.result (omega arith)
     (c.entry.ensures 7 ((bytes_eq-Decides _ (map (byte_remainder 7) (range_with_len 0 256))).0 refl))

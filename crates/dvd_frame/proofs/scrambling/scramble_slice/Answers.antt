@@ -12,7 +12,7 @@ pub returns : goal.returns
 returns c =
     let count : ℕ = c.count.result in
     let main : List ℕ = c.args.main.now in
-    let front_size : length (take count main) ≡ count = length-take-le count main (omega arith) in
+    let prefix_size : length (take count main) ≡ count = length-take-le count main (omega arith) in
     let made : c.select.new.self.bytes ≡ keys_from (preset_of c.args.id) 0 2048 =
     c.select.new.self.made ∙ ap (λ (p : ℕ). keys_from p 0 2048) c.select.ensures in
     masked_parts c.args.id c.args.rule main c.combine.new.bytes count c.count.ensures.value (omega arith) (omega arith)

@@ -18,13 +18,13 @@ pub loop-place-preserved : goal.loop-place-preserved
 loop-place-preserved c =
     let preset : ℕ = c.args.preset in
     let place : ℕ = 8 * c.loop-place.place in
-    let behind : place + 8 ≡ 8 * (c.loop-place.place + 1) = omega arith in
+    let past : place + 8 ≡ 8 * (c.loop-place.place + 1) = omega arith in
     let further : place + 16 ≡ 8 * (c.loop-place.place + 1) + 8 = omega arith in
     record {
-      written = ap (λ (m : ℕ). take m c.put.new.out) (sym behind)
+      written = ap (λ (m : ℕ). take m c.put.new.out) (sym past)
           ∙ keys_written preset place 8 c.loop-place.keys c.put.new.out c.to_be_bytes.result
           c.put.ensures c.loop-place.invariant.written (c.to_be_bytes.ensures ∙ c.loop-place.invariant.word)
-          ∙ ap (keys_from preset 0) behind;
-      word = c.loop-place.invariant.next ∙ ap (λ (k : ℕ). keys_from preset k 8) behind;
+          ∙ ap (keys_from preset 0) past;
+      word = c.loop-place.invariant.next ∙ ap (λ (k : ℕ). keys_from preset k 8) past;
       next = c.word_behind.ensures preset place c.loop-place.invariant.word c.loop-place.invariant.next ∙ ap (λ (k : ℕ). keys_from preset k 8) further;
     }

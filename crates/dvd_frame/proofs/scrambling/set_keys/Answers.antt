@@ -6,12 +6,12 @@ use Rattle.dvd_frame.proofs.scrambling.set_keys.Goals as goal
 
 pub loop-step-preserved : goal.loop-step-preserved
 loop-step-preserved c =
-    let behind : 32 * c.loop-step.step + 32 ≡ 32 * (c.loop-step.step + 1) = omega arith in
+    let past : 32 * c.loop-step.step + 32 ≡ 32 * (c.loop-step.step + 1) = omega arith in
     record {
       size = omega arith;
-      written = ap (λ (m : ℕ). take m c.set_vector.new.keys) (sym behind)
+      written = ap (λ (m : ℕ). take m c.set_vector.new.keys) (sym past)
           ∙ c.set_vector.ensures c.args.preset c.loop-step.invariant.written
-          ∙ ap (keys_from c.args.preset 0) behind;
+          ∙ ap (keys_from c.args.preset 0) past;
     }
 
 pub returns : goal.returns

@@ -3,9 +3,9 @@ use Rattle.std.proofs.Common.{◌≡◌, ℕ, ◌+◌, ◌-◌, List, length, ta
 use Rattle.std.specs.Prelude.{bit_xor}
 use Rattle.std.specs.Simd.Lanes.{zip2}
 use Rattle.std.proofs.lemmas.Simd.{length-chunk, take_more_put_chunk}
-use Rattle.coding.specs.BitDivision.{plus_front}
+use Rattle.coding.specs.BitDivision.{plus_prefix}
 use Rattle.dvd_frame.specs.Inner.Registers.{keys_from}
-use Rattle.dvd_frame.proofs.ChunkFolds.{plus_front-zip2}
+use Rattle.dvd_frame.proofs.ChunkFolds.{plus_prefix-zip2}
 use Rattle.dvd_frame.proofs.KeyWords.{length-keys, keys_written, vector_follows}
 use Rattle.dvd_frame.proofs.scrambling.set_vector.Goals as goal
 
@@ -18,7 +18,7 @@ returns c = λ preset made.
     let near_size : length (take 32 (drop (at - 176) keys)) ≡ 32 = length-chunk (at - 176) 32 keys (omega arith) in
     let long : length c.load.result ≡ length c.load-2.result = ap length c.load.ensures ∙ far_size ∙ sym (ap length c.load-2.ensures ∙ near_size) in
     let follows : vector ≡ keys_from preset at 32 =
-    plus_front-zip2 c.load.result c.load-2.result long ∙ ap₂ plus_front c.load.ensures c.load-2.ensures
+    plus_prefix-zip2 c.load.result c.load-2.result long ∙ ap₂ plus_prefix c.load.ensures c.load-2.ensures
     ∙ vector_follows preset at (at - 240) (at - 176) keys (omega arith) (omega arith) made in
     let size : length vector ≡ 32 = ap length follows ∙ length-keys preset at 32 in
     keys_written preset at 32 keys _ vector (take_more_put_chunk at keys vector (at + length vector) (omega arith) (omega (arith, size))) made follows

@@ -14,7 +14,7 @@ use Rattle.dvd_merge.proofs.Texts.{record_is, record_more}
 use Rattle.dvd_merge.proofs.record.fill_text.Goals as goal
 
 pub loop-m-init : goal.loop-m-init
-loop-m-init c = record { record_size = omega arith; size = omega arith; front = sym (recorded-none 0 (map marked_row (table_of_planes c.args.values.now c.args.codes.now))) }
+loop-m-init c = record { record_size = omega arith; size = omega arith; prefix = sym (recorded-none 0 (map marked_row (table_of_planes c.args.values.now c.args.codes.now))) }
 
 pub loop-m-preserved : goal.loop-m-preserved
 loop-m-preserved c =
@@ -32,8 +32,8 @@ loop-m-preserved c =
     record {
       record_size = c.fill_record.array_long;
       size = length-part_written (205 * m) width text part (omega (arith, c.loop-m.invariant.size)) (omega arith) ∙ c.loop-m.invariant.size;
-      front = take-put_mid (205 * m) width text part (205 * (m + 1)) (omega arith) (omega (arith, c.loop-m.invariant.size))
-          ∙ ap (λ (l : List ℕ). l ++ part) c.loop-m.invariant.front
+      prefix = take-put_mid (205 * m) width text part (205 * (m + 1)) (omega arith) (omega (arith, c.loop-m.invariant.size))
+          ∙ ap (λ (l : List ℕ). l ++ part) c.loop-m.invariant.prefix
           ∙ record_more rows m part is;
     }
 
@@ -42,4 +42,4 @@ returns c =
     let rows : List (List ℕ) = map marked_row (table_of_planes c.args.values.now c.args.codes.now) in
     let all : c.loop-m.m ≡ 208 = omega (arith, c.loop-m.auto.m-end, c.loop-m-test.false) in
     sym (take_all (205 * c.loop-m.m) c.loop-m.text (omega (arith, c.loop-m.invariant.size, all)))
-    ∙ c.loop-m.invariant.front ∙ ap (λ m. recorded 0 m rows) all ∙ sym (recording-is rows)
+    ∙ c.loop-m.invariant.prefix ∙ ap (λ m. recorded 0 m rows) all ∙ sym (recording-is rows)

@@ -9,5 +9,5 @@ abbrev pub invariant-loop-m : goal.invariant-loop-m
 invariant-loop-m l = record {
   record_size : length l.record ≡ 205;
   size : length l.text ≡ 42_640;
-  front : take (205 * l.m) l.text ≡ recorded 0 l.m (map marked_row (table_of_planes l.values l.codes));
+  prefix : take (205 * l.m) l.text ≡ recorded 0 l.m (map marked_row (table_of_planes l.values l.codes));
 }

@@ -8,12 +8,12 @@ use Rattle.dvd_par.proofs.passes.row_pass.Goals as goal
 pub returns : goal.returns
 returns g c = record {
   are = λ i d within.
-      let told = (c.for_each_piece.ensures.pieces i d (omega arith)).1 in
-      let inside : told.offset < length told.after_call.now = omega (arith, told.call.1, told.offset_in_chunk) in
-      let at : ℕ = told.start + told.offset in
+      let said = (c.for_each_piece.ensures.pieces i d (omega arith)).1 in
+      let inside : said.offset < length said.after_call.now = omega (arith, said.call.1, said.offset_in_chunk) in
+      let at : ℕ = said.start + said.offset in
       subst
       (λ n. IsAnswer (line (received_rows c.args.received.now) n) (marks_line (marks_rows c.args.marks.now) n) (get_or c.for_each_piece.new.items i d))
-      {x = told.start + told.offset} (omega (arith, told.start_plus_offset))
-      (subst (IsAnswer (line (received_rows c.args.received.now) at) (marks_line (marks_rows c.args.marks.now) at)) told.new_element
-      (told.call.0.are told.offset d inside));
+      {x = said.start + said.offset} (omega (arith, said.start_plus_offset))
+      (subst (IsAnswer (line (received_rows c.args.received.now) at) (marks_line (marks_rows c.args.marks.now) at)) said.new_element
+      (said.call.0.are said.offset d inside));
 }

@@ -2,22 +2,22 @@
 use Rattle.std.proofs.Common.{◌≡◌, ◌∙◌, ◌*◌, ℕ, take, refl, sym, ap, arith}
 use Rattle.coding.specs.TwoPass.{from_columns}
 use Rattle.dvd_read.specs.Inner.Found.{words_of_columns}
-use Rattle.dvd_read.proofs.FrameFaults.{fronts, fronts-all, fronts-next}
+use Rattle.dvd_read.proofs.FrameFaults.{prefixes, prefixes-all, prefixes-next}
 use Rattle.dvd_read.proofs.frames.copy_frame.Goals as goal
 
 pub loop-q-init : goal.loop-q-init
-loop-q-init c = record { size = c.told-frame; front = refl }
+loop-q-init c = record { size = c.told-frame; prefix = refl }
 
 pub loop-q-preserved : goal.loop-q-preserved
 loop-q-preserved c = record {
-  size = c.put_front.array_long;
-  front = fronts-next (from_columns (words_of_columns c.args.columns.now)) c.args.f c.loop-q.q c.loop-q.frame c.put_front.new.frame c.read_row.new.row
-      c.put_front.ensures.front c.loop-q.invariant.front c.read_row.ensures;
+  size = c.put_data.array_long;
+  prefix = prefixes-next (from_columns (words_of_columns c.args.columns.now)) c.args.f c.loop-q.q c.loop-q.frame c.put_data.new.frame c.read_row.new.row
+      c.put_data.ensures.prefix c.loop-q.invariant.prefix c.read_row.ensures;
 }
 
 pub returns : goal.returns
 returns c =
     let block = from_columns (words_of_columns c.args.columns.now) in
     let last : c.loop-q.q ≡ 12 = omega arith in
-    fronts-all block c.args.f c.loop-q.frame c.loop-q.invariant.size
-    (ap (λ (n : ℕ). take (172 * n) c.loop-q.frame) (sym last) ∙ c.loop-q.invariant.front ∙ ap (fronts block c.args.f) last)
+    prefixes-all block c.args.f c.loop-q.frame c.loop-q.invariant.size
+    (ap (λ (n : ℕ). take (172 * n) c.loop-q.frame) (sym last) ∙ c.loop-q.invariant.prefix ∙ ap (prefixes block c.args.f) last)

@@ -1,28 +1,28 @@
 -- The proof of `copy_received` in src/frames.rt.
 use Rattle.std.proofs.Common.{◌≡◌, ◌∙◌, ◌+◌, ◌*◌, ℕ, List, take, refl, sym, ap, arith}
 use Rattle.coding.specs.Product.{line}
-use Rattle.dvd_read.proofs.FrameFaults.{fronts, fronts-all, fronts-next, width-next}
+use Rattle.dvd_read.proofs.FrameFaults.{prefixes, prefixes-all, prefixes-next, width-next}
 use Rattle.dvd_read.proofs.frames.copy_received.Goals as goal
 
 pub loop-q-init : goal.loop-q-init
-loop-q-init c = record { size = c.told-frame; front = refl; widths = λ k none. absurd (omega arith) }
+loop-q-init c = record { size = c.told-frame; prefix = refl; widths = λ k none. absurd (omega arith) }
 
 pub loop-q-preserved : goal.loop-q-preserved
 loop-q-preserved c =
     let rows : List (List ℕ) = c.args.rows.now in
     let row : List ℕ = line rows (12 * c.args.f + c.loop-q.q) in
     record {
-      size = c.put_front.array_long;
-      front = fronts-next rows c.args.f c.loop-q.q c.loop-q.frame c.put_front.new.frame row c.put_front.ensures.front c.loop-q.invariant.front refl;
-      widths = width-next rows c.args.f c.loop-q.q row refl c.put_front.ensures.width c.loop-q.invariant.widths;
+      size = c.put_data.array_long;
+      prefix = prefixes-next rows c.args.f c.loop-q.q c.loop-q.frame c.put_data.new.frame row c.put_data.ensures.prefix c.loop-q.invariant.prefix refl;
+      widths = width-next rows c.args.f c.loop-q.q row refl c.put_data.ensures.width c.loop-q.invariant.widths;
     }
 
 pub returns-clause-frame : goal.returns-clause-frame
 returns-clause-frame c =
     let rows : List (List ℕ) = c.args.rows.now in
     let last : c.loop-q.q ≡ 12 = omega arith in
-    fronts-all rows c.args.f c.loop-q.frame c.loop-q.invariant.size
-    (ap (λ (n : ℕ). take (172 * n) c.loop-q.frame) (sym last) ∙ c.loop-q.invariant.front ∙ ap (fronts rows c.args.f) last)
+    prefixes-all rows c.args.f c.loop-q.frame c.loop-q.invariant.size
+    (ap (λ (n : ℕ). take (172 * n) c.loop-q.frame) (sym last) ∙ c.loop-q.invariant.prefix ∙ ap (prefixes rows c.args.f) last)
 
 pub returns-clause-widths : goal.returns-clause-widths
 returns-clause-widths c = λ q below. c.loop-q.invariant.widths q (omega arith)

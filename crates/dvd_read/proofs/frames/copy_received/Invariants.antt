@@ -1,12 +1,12 @@
 -- What each turn of the loop in `copy_received` keeps.
 use Rattle.std.proofs.Common.{◌≡◌, ℕ, ◌+◌, ◌*◌, ◌<◌, length, take}
 use Rattle.coding.specs.Product.{line}
-use Rattle.dvd_read.proofs.FrameFaults.{fronts}
+use Rattle.dvd_read.proofs.FrameFaults.{prefixes}
 use Rattle.dvd_read.proofs.frames.copy_received.Given as goal
 
 abbrev pub invariant-loop-q : goal.invariant-loop-q
 invariant-loop-q l = record {
   size : length l.frame ≡ 2064;
-  front : take (172 * l.q) l.frame ≡ fronts l.rows l.f l.q;
+  prefix : take (172 * l.q) l.frame ≡ prefixes l.rows l.f l.q;
   widths : (k : ℕ) → k < l.q → length (line l.rows (12 * l.f + k)) ≡ 182;
 }

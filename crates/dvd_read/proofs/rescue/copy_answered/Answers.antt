@@ -3,12 +3,12 @@ use Rattle.std.proofs.Common.{◌≡◌, ◌∙◌, ◌+◌, ◌*◌, ℕ, lengt
 use Rattle.std.proofs.lemmas.List.{length-map}
 use Rattle.dvd_read.specs.Parts.{answer_word}
 use Rattle.dvd_read.specs.Inner.Saved.{answered_block}
-use Rattle.dvd_read.proofs.FrameFaults.{fronts, fronts-all, fronts-next}
+use Rattle.dvd_read.proofs.FrameFaults.{prefixes, prefixes-all, prefixes-next}
 use Rattle.dvd_read.proofs.SavedFrames.{answered-line, failed-flag, lacks-at, none-more}
 use Rattle.dvd_read.proofs.rescue.copy_answered.Goals as goal
 
 pub loop-q-init : goal.loop-q-init
-loop-q-init c = record { size = c.told-frame; front = refl; none = refl }
+loop-q-init c = record { size = c.told-frame; prefix = refl; none = refl }
 
 pub returns-then-is_none-clause-has : goal.returns-then-is_none-clause-has
 returns-then-is_none-clause-has c =
@@ -25,8 +25,8 @@ loop-q-preserved c =
     let size : length (map answer_word rows) ≡ 208 = length-map rows answer_word ∙ c.requires.rows in
     let has = ap not (c.is_none.ensures ∙ ap not c.if-is_none.false) in
     record {
-      size = c.put_front.array_long;
-      front = fronts-next (answered_block (map answer_word rows)) f q c.loop-q.frame c.put_front.new.frame _ c.put_front.ensures.front c.loop-q.invariant.front
+      size = c.put_data.array_long;
+      prefix = prefixes-next (answered_block (map answer_word rows)) f q c.loop-q.frame c.put_data.new.frame _ c.put_data.ensures.prefix c.loop-q.invariant.prefix
           (sym (answered-line rows (12 * f + q) _ (omega arith) has));
       none = none-more (map answer_word rows) f q size c.requires.frame (omega arith) c.loop-q.invariant.none
           (failed-flag rows (12 * f + q) _ (omega arith) ∙ has);
@@ -37,5 +37,5 @@ returns-clause-frame c =
     let block = answered_block (map answer_word c.args.answers.now) in
     let last : c.loop-q.q ≡ 12 = omega arith in
     λ yes.
-    fronts-all block c.args.f c.loop-q.frame c.loop-q.invariant.size
-    (ap (λ (n : ℕ). take (172 * n) c.loop-q.frame) (sym last) ∙ c.loop-q.invariant.front ∙ ap (fronts block c.args.f) last)
+    prefixes-all block c.args.f c.loop-q.frame c.loop-q.invariant.size
+    (ap (λ (n : ℕ). take (172 * n) c.loop-q.frame) (sym last) ∙ c.loop-q.invariant.prefix ∙ ap (prefixes block c.args.f) last)

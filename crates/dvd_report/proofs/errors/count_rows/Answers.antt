@@ -29,10 +29,10 @@ answered-block Fixed has = tt
 
 -- what `is_none` answers
 told-none : (none : Bool) (answer : Option Fix) → is_some answer ≡ not none → none ≡ is_none answer
-told-none true None told = refl
-told-none true (Some fix) told = cc
-told-none false None told = cc
-told-none false (Some fix) told = refl
+told-none true None said = refl
+told-none true (Some fix) said = cc
+told-none false None said = cc
+told-none false (Some fix) said = refl
 
 pub row-requires-clause-stage : goal.row-requires-clause-stage
 row-requires-clause-stage c = answered-block (stage_of c.args.work.now) c.requires

@@ -19,8 +19,8 @@ loop-f-preserved c =
       written = filled-one_more (λ f (sector : List ℕ). sector ≡ unwrap_or (rescued answers c.args.plan.now f) (replicate 2048 0))
           c.loop-f.sectors c.loop-f.f _ []
           (omega (arith, c.loop-f-test.true, c.loop-f.invariant.size)) c.loop-f.invariant.written c.salvage_frame.ensures.main;
-      told = filled-one_more (λ f (byte : ℕ). byte ≡ bool_byte (is_some (rescued answers c.args.plan.now f))) c.loop-f.saved c.loop-f.f _ 0
-          (omega (arith, c.loop-f-test.true, c.loop-f.invariant.places)) c.loop-f.invariant.told
+      said = filled-one_more (λ f (byte : ℕ). byte ≡ bool_byte (is_some (rescued answers c.args.plan.now f))) c.loop-f.saved c.loop-f.f _ 0
+          (omega (arith, c.loop-f-test.true, c.loop-f.invariant.places)) c.loop-f.invariant.said
           (c.from.ensures ∙ ap bool_byte c.salvage_frame.ensures.saved);
     }
 
@@ -36,4 +36,4 @@ unfolding saved_frames
 returns-clause-saved c =
     let answers = answers_of (rows_of c.args.work.now) (marks_of_work c.args.work.now) in
     fill_by_all (λ f. cond (is_some (rescued answers c.args.plan.now f)) 1 0) c.loop-f.saved 16 0 c.loop-f.invariant.places
-    (λ k below. c.loop-f.invariant.told k (omega arith) ∙ as_number (is_some (rescued answers c.args.plan.now k)))
+    (λ k below. c.loop-f.invariant.said k (omega arith) ∙ as_number (is_some (rescued answers c.args.plan.now k)))

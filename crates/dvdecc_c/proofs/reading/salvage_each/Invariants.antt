@@ -13,5 +13,5 @@ invariant-loop-f l = record {
   size : length l.sectors ≡ 16;
   places : length l.saved ≡ 16;
   written : (k : ℕ) → k < l.f → line l.sectors k ≡ unwrap_or (rescued (answers_of (rows_of l.work) (marks_of_work l.work)) l.plan k) (replicate 2048 0);
-  told : (k : ℕ) → k < l.f → get_or l.saved k 0 ≡ bool_byte (is_some (rescued (answers_of (rows_of l.work) (marks_of_work l.work)) l.plan k));
+  said : (k : ℕ) → k < l.f → get_or l.saved k 0 ≡ bool_byte (is_some (rescued (answers_of (rows_of l.work) (marks_of_work l.work)) l.plan k));
 }

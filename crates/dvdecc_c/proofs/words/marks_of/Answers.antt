@@ -8,14 +8,14 @@ use Rattle.dvdecc_c.proofs.words.marks_of.Goals as goal
 pub loop-k-init : goal.loop-k-init
 loop-k-init g c = record {
   size = length-replicate g.row.N false;
-  told = λ j below. absurd (omega (arith, below));
+  said = λ j below. absurd (omega (arith, below));
 }
 
 pub loop-k-preserved : goal.loop-k-preserved
 loop-k-preserved g c = record {
   size = length-set c.loop-k.marks c.loop-k.k _ ∙ c.loop-k.invariant.size;
-  told = filled-one_more (λ j (mark : Bool). mark ≡ not (get_or c.args.lost.now j 0 == 0)) c.loop-k.marks c.loop-k.k _ false
-      (omega (arith, c.loop-k-test.true, c.loop-k.invariant.size)) c.loop-k.invariant.told refl;
+  said = filled-one_more (λ j (mark : Bool). mark ≡ not (get_or c.args.lost.now j 0 == 0)) c.loop-k.marks c.loop-k.k _ false
+      (omega (arith, c.loop-k-test.true, c.loop-k.invariant.size)) c.loop-k.invariant.said refl;
 }
 
 pub returns : goal.returns
@@ -25,5 +25,5 @@ returns g c =
     ext_get_or false c.loop-k.marks (map (λ (byte : ℕ). not (byte == 0)) lost)
     (c.loop-k.invariant.size ∙ sym (length-map lost (λ (byte : ℕ). not (byte == 0)) ∙ c.told-lost))
     (λ k within.
-    c.loop-k.invariant.told k (omega (arith, c.loop-k.invariant.size))
+    c.loop-k.invariant.said k (omega (arith, c.loop-k.invariant.size))
     ∙ sym (get_or-map (λ (byte : ℕ). not (byte == 0)) lost k 0 false (omega (arith, c.told-lost, c.loop-k.invariant.size))))

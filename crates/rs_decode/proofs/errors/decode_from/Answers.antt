@@ -22,7 +22,7 @@ returns-then-are_zeros-clause-near g c =
     let word = c.args.word.now in
     let erasures = c.args.erasures.now in
     let erased = erased_are_marked g (goal.at.returns-then-are_zeros-clause-near g c).After-len-erased in
-    let codeword = IsCodeword-from_zeros g.row.N g.row.R word c.deref.result.now c.told-word c.tell_bytes.ensures (c.deref.ensures.0 ∙ c.requires) (c.are_zeros.ensures.0 c.if-are_zeros.true) in
+    let codeword = IsCodeword-from_zeros g.row.N g.row.R word c.deref.result.now c.told-word c.prove_bytes.ensures (c.deref.ensures.0 ∙ c.requires) (c.are_zeros.ensures.0 c.if-are_zeros.true) in
     IsNear-from_counts g.row.N g.row.R word word erasures.marks codeword c.told-word erasures.size (omega (arith, error_count-self word erasures.marks, erased, c.if-erased-eq0.true))
 
 pub returns-then-are_zeros-clause-errors : goal.returns-then-are_zeros-clause-errors
@@ -34,7 +34,7 @@ returns-then-are_zeros-clause-erased g c = omega (arith, erased_are_marked g (go
 pub fill_located-requires : goal.fill_located-requires
 fill_located-requires g c =
     let few : marked c.args.erasures.now.marks ≤ g.row.R = omega (arith, erased_are_marked g (goal.at.fill_located-requires g c).After-len-erased, c.if-erased.false) in
-    (search rules, (search rules, (search rules, (c.requires, (c.tell_bytes.ensures, few)))))
+    (search rules, (search rules, (search rules, (c.requires, (c.prove_bytes.ensures, few)))))
 
 -- the codeword that was found is the only one that may be near, and it differs in too many places
 pub returns-then-errors-erased-clause-beyond : goal.returns-then-errors-erased-clause-beyond

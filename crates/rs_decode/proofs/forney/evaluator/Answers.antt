@@ -10,7 +10,7 @@ use Rattle.rs_decode.proofs.forney.evaluator.Goals as goal
 pub loop-point-init : goal.loop-point-init
 loop-point-init c = record {
   size = omega arith;
-  evaluated = λ bytes are. IsEvaluated-start c.args.points.now bytes c.args.sums.now c.in_front-lanes.result c.in_front-lanes.ensures are;
+  evaluated = λ bytes are. IsEvaluated-start c.args.points.now bytes c.args.sums.now c.as_prefix-lanes.result c.as_prefix-lanes.ensures are;
 }
 
 pub loop-point-preserved : goal.loop-point-preserved

@@ -9,7 +9,7 @@ use Rattle.rs_decode.proofs.register.shortest.Goals.{then-found-ne0+then-len-pla
 pub loop-place-init : goal.loop-place-init
 loop-place-init c = record {
   lanes = omega arith;
-  is_at = IsAt-start c.moved_up.result c.args.seq.now c.in_front.result c.moved_up-2.result c.requires (λ k below. omega (arith, c.type_inv.seq k)) c.in_front.ensures
+  is_at = IsAt-start c.moved_up.result c.args.seq.now c.as_prefix.result c.moved_up-2.result c.requires (λ k below. omega (arith, c.type_inv.seq k)) c.as_prefix.ensures
       c.moved_up.ensures c.moved_up-2.ensures;
 }
 

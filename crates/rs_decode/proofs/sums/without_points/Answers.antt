@@ -7,9 +7,9 @@ use Rattle.rs_decode.proofs.sums.without_points.Goals as goal
 pub loop-point-init : goal.loop-point-init
 loop-point-init c =
     let sums = c.args.sums.now in
-    let left = c.in_front-left.result in
+    let left = c.as_prefix-left.result in
     let none : length sums - 0 ≡ length sums = omega arith in
-    let all : take (length sums - 0) left ≡ sums = ap (λ n. take n left) none ∙ c.in_front-left.ensures in
+    let all : take (length sums - 0) left ≡ sums = ap (λ n. take n left) none ∙ c.as_prefix-left.ensures in
     record {
       size = omega arith;
       are = λ places bytes are. AreSums-all places bytes (take (length sums - 0) left) (subst (AreSums places bytes) (sym all) are);

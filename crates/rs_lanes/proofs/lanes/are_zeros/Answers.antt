@@ -6,7 +6,7 @@ use Rattle.rs_lanes.proofs.lanes.are_zeros.Goals as goal
 
 pub returns : goal.returns
 returns c =
-    let tells = joined-zero 0 c.args.lanes in (
-      (λ none k below. (tells.0 (eqb-true _ _ none)).1 k (omega arith)),
-      (λ zeros. eq-eqb _ _ (tells.1 (refl, λ k below. zeros k (omega arith)))),
+    let says = joined-zero 0 c.args.lanes in (
+      (λ none k below. (says.0 (eqb-true _ _ none)).1 k (omega arith)),
+      (λ zeros. eq-eqb _ _ (says.1 (refl, λ k below. zeros k (omega arith)))),
     )

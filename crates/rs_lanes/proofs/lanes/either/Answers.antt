@@ -9,5 +9,5 @@ returns-clause-size c = (HoldsLanes-zip2 32 bit_or c.args.a c.args.b c.fits-a.0 
 pub returns-clause-zeros : goal.returns-clause-zeros
 returns-clause-zeros c = λ k below.
     let is = (HoldsLanes-zip2 32 bit_or c.args.a c.args.b c.fits-a.0 c.fits-b.0).each k below in
-    let tells = either-zero (get_or c.args.a k 0) (get_or c.args.b k 0) in
-    ((λ zero_is. tells.0 (sym is ∙ zero_is)), (λ both. is ∙ tells.1 both))
+    let says = either-zero (get_or c.args.a k 0) (get_or c.args.b k 0) in
+    ((λ zero_is. says.0 (sym is ∙ zero_is)), (λ both. is ∙ says.1 both))

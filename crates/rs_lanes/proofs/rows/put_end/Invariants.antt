@@ -7,6 +7,6 @@ use Rattle.rs_lanes.proofs.rows.put_end.Given as goal
 abbrev pub invariant-loop-k : goal.invariant-loop-k
 invariant-loop-k l = record {
   size : length l.row ≡ 182;
-  front : (i : ℕ) → i < 172 → get_or l.row i 0 ≡ get_or l.initial.row i 0;
+  prefix : (i : ℕ) → i < 172 → get_or l.row i 0 ≡ get_or l.initial.row i 0;
   set : (i : ℕ) → i < l.k → get_or l.row (172 + i) 0 ≡ place l.parity i l.n;
 }

@@ -1,7 +1,7 @@
 -- The proof of `Block::place_parity` in src/block.rt.
 use Rattle.std.proofs.Common.{◌≡◌, ℕ, ◌-◌, List, length, get_or, take, ap, sym, ◌∙◌, arith}
 use Rattle.coding.specs.Product.{place}
-use Rattle.dvd_block.proofs.RowParts.{back_written, back_front}
+use Rattle.dvd_block.proofs.RowParts.{back_written, back_prefix}
 use Rattle.dvd_block.proofs.block.Block.place_parity.Goals as goal
 
 module _ (c : goal.After-self-1) where
@@ -42,6 +42,6 @@ returns-clause-sizes c = λ t below.
 
 pub returns-clause-rows_kept : goal.returns-clause-rows_kept
 returns-clause-rows_kept c =
-    back_front 192 (k c) c.args.self.now.lines.rows.len (rows c) c.place_cells.new.rows c.args.self.now.lines.rows.items
+    back_prefix 192 (k c) c.args.self.now.lines.rows.len (rows c) c.place_cells.new.rows c.args.self.now.lines.rows.items
     (omega (arith, height c)) (size c) (number c)
     ∙ ap (λ (all : List (List ℕ)). take 192 all) c.rows_mut.ensures.rows

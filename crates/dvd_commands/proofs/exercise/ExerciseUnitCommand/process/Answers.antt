@@ -7,7 +7,7 @@ use Rattle.dvd_exercise.specs.Generator.{state_of}
 use Rattle.dvd_layout.specs.declared.layout.Zones.TheVariants.{DataOnly}
 use Rattle.dvd_loop.proofs.StreamLemmas.{all_unmoved, stays}
 use Rattle.dvd_commands.specs.Exercise.{no_marks}
-use Rattle.dvd_commands.specs.Inner.Exercising.{IsBehind}
+use Rattle.dvd_commands.specs.Inner.Exercising.{HaveBeenTried}
 use Rattle.dvd_commands.proofs.exercise.Blocks.{length-data_plan}
 use Rattle.dvd_commands.proofs.exercise.UnitCommand.{no_cause, moved_on}
 use Rattle.dvd_commands.proofs.PlanEntries.{has_numbers}
@@ -27,11 +27,11 @@ read_back-requires-clause-numbers g c = has_numbers c.args.self.now.layout DataO
 pub read_back-requires-clause-right : goal.read_back-requires-clause-right
 read_back-requires-clause-right g c =
     let e = c.args.self.now in
-    let stands = rw c.from.ensures at c.plan-entry.ensures in
+    let is_there = rw c.from.ensures at c.plan-entry.ensures in
     let piece = piece_bytes c.draw_block.new.piece in
     let block = block_rows c.draw_block.new.block in
     let work = c.load_hurt.new.work in
-    no_cause e.blocks c.args.k (state_of e.rand) e.layout e.shape c.requires.unit e.few c.plan-entry.result stands
+    no_cause e.blocks c.args.k (state_of e.rand) e.layout e.shape c.requires.unit e.few c.plan-entry.result is_there
     piece block work c.draw_block.ensures.drawn
     c.draw_block.ensures.made
     (subst (λ x. IsHurt x block no_marks (rows_of work) (marks_of_work work)) c.draw_block.ensures.state c.load_hurt.ensures.hurt)
@@ -41,7 +41,7 @@ returns-clause-processed g c = λ before number ready.
     let e = c.args.self.now in
     let k = c.args.k in
     let entry = c.plan-entry.result in
-    let stands = rw c.from.ensures at c.plan-entry.ensures in
+    let is_there = rw c.from.ensures at c.plan-entry.ensures in
     let piece = piece_bytes c.draw_block.new.piece in
     let block = block_rows c.draw_block.new.block in
     let work = c.load_hurt.new.work in
@@ -50,9 +50,9 @@ returns-clause-processed g c = λ before number ready.
     let new_state = state_of c.load_hurt.new.rand in
     let counts = c.read_back.new.counts in
     let new_work = c.read_back.new.work in
-    let after_last = subst (λ n. IsBehind e.seed n x e.counts e.work.now) number ready.0 in
-    let next : IsBehind e.seed (k + 1) new_state counts new_work =
-    moved_on e.blocks k x e.layout e.shape c.requires.unit e.few entry stands piece block work c.draw_block.ensures.drawn
+    let after_last = subst (λ n. HaveBeenTried e.seed n x e.counts e.work.now) number ready.0 in
+    let next : HaveBeenTried e.seed (k + 1) new_state counts new_work =
+    moved_on e.blocks k x e.layout e.shape c.requires.unit e.few entry is_there piece block work c.draw_block.ensures.drawn
     c.draw_block.ensures.made
     (subst (λ x. IsHurt x block no_marks (rows_of work) (marks_of_work work)) c.draw_block.ensures.state c.load_hurt.ensures.hurt)
     e.seed c.bytes.result.now c.bytes.ensures.bytes e.counts counts e.work.now new_work new_state after_last
@@ -63,5 +63,5 @@ returns-clause-processed g c = λ before number ready.
       unit = record { whole = refl; does = (refl, refl) };
       moved = stays _;
       causes = all_unmoved _;
-      next = (subst (λ n. IsBehind e.seed n new_state counts new_work) (sym (length-append before ([] ∷ []) ∙ ap (λ n. n + 1) number)) next, ready.1, ready.2);
+      next = (subst (λ n. HaveBeenTried e.seed n new_state counts new_work) (sym (length-append before ([] ∷ []) ∙ ap (λ n. n + 1) number)) next, ready.1, ready.2);
     }

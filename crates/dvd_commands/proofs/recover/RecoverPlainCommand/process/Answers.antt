@@ -14,5 +14,5 @@ pub returns-clause-processed : goal.returns-clause-processed
 returns-clause-processed g c = λ before number.
     let fetched = c.in_ok-fetch_block.ensures.full in
     captured_done _ _ (λ k own. refl) c.args.k before number _ _ _ _ _ _ _ fetched (c.in_ok-fetch_block.ensures.causes _ _) _ _ _
-    (done_by_entry _ _ _ _ _ c.at-entry.ensures.stands _ _ _ fetched.rows_are fetched.marks_are
+    (done_by_entry _ _ _ _ _ c.at-entry.ensures.is_there _ _ _ fetched.rows_are fetched.marks_are
     _ _ _ (c.recover_block.ensures (g.S.Source.seen c.fetch_block.new.src))) tt

@@ -31,13 +31,13 @@ pub returns-clause-processed : goal.returns-clause-processed
 returns-clause-processed g c = λ before number ready.
     let m = c.args.self.now in
     let entry = c.at-entry.result in
-    let stands = c.at-entry.ensures.stands in
+    let is_there = c.at-entry.ensures.is_there in
     let fetched = c.in_ok-fetch_block.ensures.full in
     let found = found_in m.blocks.layout m.blocks.zones m.form before in
     captured_done _ m.form (λ k own. refl) c.args.k before number _ _ _ _ _ _ _ fetched (c.in_ok-fetch_block.ensures.causes _ _) _ _ _
-    (done_as _ _ (line_done m.blocks.layout m.blocks.zones m.form c.args.k before number fetched.bytes entry stands _ _ fetched.rows_are fetched.marks_are c.requires.unit)
+    (done_as _ _ (line_done m.blocks.layout m.blocks.zones m.form c.args.k before number fetched.bytes entry is_there _ _ fetched.rows_are fetched.marks_are c.requires.unit)
     _ _ _ (c.survey_block.ensures.done (g.S.Source.seen c.fetch_block.new.src) (g.E.Sink.seen c.args._report.now) found ready.0)) (
-      next_stands m.blocks.layout m.blocks.zones m.form c.args.k before number fetched.bytes entry stands _ _ fetched.rows_are fetched.marks_are
+      next_stands m.blocks.layout m.blocks.zones m.form c.args.k before number fetched.bytes entry is_there _ _ fetched.rows_are fetched.marks_are
           c.survey_block.new.survey (c.survey_block.ensures.survey found ready.0),
       ready.1,
     )

@@ -11,10 +11,10 @@ returns-clause-items c =
       c.push-2.ensures.items,
       c.push.ensures.items,
       c.push_lead_in.ensures.items,
-      c.behind-2.ensures,
+      c.zone_after-2.ensures,
       c.zeros.ensures,
       c.second_data-second.ensures,
-      c.behind.ensures,
+      c.zone_after.ensures,
       c.first_data-first.ensures,
     )
     (simp append_assoc)

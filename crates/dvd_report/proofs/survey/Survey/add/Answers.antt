@@ -1,6 +1,6 @@
 -- The proof of `Survey::add` in src/survey.rt.
 use Rattle.std.proofs.Common.{◌≡◌, ◌∙◌, ◌∷◌, ◌++◌, [], Some, length, map, sym, ap, subst, length-append}
-use Rattle.dvd_report.specs.Survey.{last_eight, pi_of, SurveyState, StandsFor, totals_of}
+use Rattle.dvd_report.specs.Survey.{last_eight, pi_of, SurveyState, Represents, totals_of}
 use Rattle.dvd_report.proofs.Sums.{last-is, window-moved, window-summed}
 use Rattle.circular_buffer.specs.Buffer.{Buffer}
 use Rattle.std.specs.Prelude.{ℕ}
@@ -17,7 +17,7 @@ returns-clause-added c blocks is =
     (ap (λ (b : Buffer ℕ). b.items) c.push_back.ensures.items) in
     let summed = c.sum_of.ensures ∙ window-summed more c.push_back.new.self.items (length blocks) (sym (length-append blocks (block ∷ []))) items in
     let state : SurveyState = record { totals = c.totals_with-self-inside.result; window = c.push_back.new.self.items; last = Some block } in
-    subst (λ b. StandsFor state (blocks ++ b ∷ [])) c.survey_block-block.ensures record {
+    subst (λ b. Represents state (blocks ++ b ∷ [])) c.survey_block-block.ensures record {
       totals = c.totals_with-self-inside.ensures.totals blocks totals summed;
       window = items;
       last = sym (last-is blocks block);

@@ -14,8 +14,8 @@ use Rattle.rs_decode.proofs.patches.Patches.fill.Goals as goal
 
 -- what is said where there is something holds if there is
 where-some : {X : Type 0} (found : Option X) (P : Type 0) → is_some found ≡ true → ForSome found (λ _. P) → P
-where-some None P is told = cc
-where-some (Some x) P is told = told x refl
+where-some None P is said = cc
+where-some (Some x) P is said = said x refl
 
 -- the first places are those of the marks
 placed : (marks : List Bool) (places : List ℕ) (count : ℕ) → count ≡ marked marks → ArePlaces marks count places → ArePlaces marks (marked marks) (take count places)
@@ -49,7 +49,7 @@ returns-clause-filled g c = λ _.
     record {
       codeword = record {
         size = omega (arith, c.add_to.auto.word, c.told-word);
-        bytes = c.tell_bytes.ensures;
+        bytes = c.prove_bytes.ensures;
         vanishes = λ k below. ap (λ w. value w (power alpha k)) filled_is ∙ c.requires.completes c.if-self-n-ne0.false k below;
       };
       agrees = subst (AgreeUnmarked erasures.marks word) (sym filled_is) (AgreeUnmarked-patched word erasures.marks bytes alike);

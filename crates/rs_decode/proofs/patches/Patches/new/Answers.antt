@@ -21,7 +21,7 @@ left_over-requires-clause-nonzero g c =
     All-from_get_or (λ point. point ≢ 0) c.deref.result.now 0 (λ i. point-nonzero erasures.marks c.deref.result.now i points_are)
 
 pub returns : goal.returns
-returns g c = λ n word inside size same told k below.
+returns g c = λ n word inside size same said k below.
     let erasures = c.args.erasures.now in
     let points = c.deref.result.now in
     let stored = c.loop-i.patches.bytes in
@@ -44,5 +44,5 @@ returns g c = λ n word inside size same told k below.
           let byte : place c.args.values.now k n < 256 = subst (λ v. v < 256) (sym (same k below)) (value-byte word (power alpha k)) in
           sym (same k below) ∙ c.proposed-proposed.ensures k n (omega (arith, ap length points_same)) inside byte
           ∙ ap (λ (xs : List ℕ). power_sum (take (length xs) (column proposed n)) xs k) points_same
-      | inr further ↦ sym (same k below) ∙ c.left_over.ensures.sums k n (omega arith) below inside told
+      | inr further ↦ sym (same k below) ∙ c.left_over.ensures.sums k n (omega arith) below inside said
     ])

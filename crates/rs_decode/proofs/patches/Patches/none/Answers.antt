@@ -4,6 +4,6 @@ use Rattle.std.proofs.lemmas.Simd.{get_or-replicate}
 use Rattle.rs_decode.proofs.patches.Patches.none.Goals as goal
 
 pub returns : goal.returns
-returns c = λ n marks word below told.
-    let one : ◌≡◌ {A = ℕ} 1 0 = sym (get_or-replicate {A = ℕ} 32 n 1 0 below) ∙ told in
+returns c = λ n marks word below said.
+    let one : ◌≡◌ {A = ℕ} 1 0 = sym (get_or-replicate {A = ℕ} 32 n 1 0 below) ∙ said in
     absurd (omega (arith, one))

@@ -2,7 +2,7 @@
 //! as `dvdecc` writes it is refused, even a zero or a blank too many. `block`, `closing` and `reader` call these.
 ghost use Rattle.std.specs.Prelude.{◌≡◌, ◌≤◌, length, bytes_eq, option_map};
 ghost use Rattle.std.specs.List.{list_all};
-ghost use Rattle.cap_lost.specs.Fronts.{without_prefix, after_number, after_eight_digits, digits_of, is_capital_digit, number_first};
+ghost use Rattle.cap_lost.specs.Prefixes.{without_prefix, after_number, after_eight_digits, digits_of, is_capital_digit, number_first};
 
 use cap_map::digits_in;
 use itoa::Buffer;
@@ -15,10 +15,10 @@ pub fn is_text(text: &[u8], other: &[u8]) -> bool
 }
 
 /// What comes after this prefix of a text, if the text has it.
-pub fn without_prefix<'a>(text: &'a [u8], front: &[u8]) -> Option<&'a [u8]>
-    ensures { option_map (λ rest. rest.now) result ≡ without_prefix front.now text.now }
+pub fn without_prefix<'a>(text: &'a [u8], prefix: &[u8]) -> Option<&'a [u8]>
+    ensures { option_map (λ rest. rest.now) result ≡ without_prefix prefix.now text.now }
 {
-    text.strip_prefix(front)
+    text.strip_prefix(prefix)
 }
 
 /// The number that a text begins with, as `dvdecc` writes it, and what comes after its digits. Zeros before other

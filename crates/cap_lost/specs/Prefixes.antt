@@ -6,7 +6,7 @@ use Rattle.cap_map.specs.Numbers.{digits_in}
 
 -- what comes after this prefix of a text, if the text has it
 abbrev pub without_prefix : List ℕ → List ℕ → Option (List ℕ)
-without_prefix front text = if bytes_eq (take (length front) text) front then Some (drop (length front) text) else None
+without_prefix prefix text = if bytes_eq (take (length prefix) text) prefix then Some (drop (length prefix) text) else None
 
 -- how many decimal digits a text begins with
 abbrev pub digits_of : List ℕ → ℕ

@@ -4,8 +4,8 @@ use Rattle.std.proofs.lemmas.List.{append_cancel_left}
 use Rattle.std.proofs.Math.Seq.{take-append_seam}
 
 -- fronts of one length are the same
-pub same_front : (own other left rest : List ℕ) → own ++ left ≡ other ++ rest → length own ≡ length other → own ≡ other
-same_front own other left rest is same =
+pub same_prefix : (own other left rest : List ℕ) → own ++ left ≡ other ++ rest → length own ≡ length other → own ≡ other
+same_prefix own other left rest is same =
     sym (take-append_seam own left) ∙ ap (λ n. take n (own ++ left)) same ∙ ap (take (length other)) is ∙ take-append_seam other rest
 
 -- and so is what is left after them

@@ -30,36 +30,36 @@ length-zeros_and k word = length-append (replicate {A = ℕ} k 0) word ∙ ap (�
 length-kept_and : (k : ℕ) (marks : List Bool) → length (kept_and k marks) ≡ k + length marks
 length-kept_and k marks = length-append (replicate {A = Bool} k false) marks ∙ ap (λ n. n + length marks) (length-replicate {A = Bool} k false)
 
-value-front : (k : ℕ) (word : List ℕ) (x : ℕ) → value (zeros_and k word) x ≡ value word x
-value-front k word x = value-append (replicate {A = ℕ} k 0) word x ∙ rw (value-zeros k x, zero-product, zero-plus) refl
+value-zeros_and : (k : ℕ) (word : List ℕ) (x : ℕ) → value (zeros_and k word) x ≡ value word x
+value-zeros_and k word x = value-append (replicate {A = ℕ} k 0) word x ∙ rw (value-zeros k x, zero-product, zero-plus) refl
 
 -- zeros that aren't lost cost nothing
-cost-front : (k : ℕ) (word received : List ℕ) (marks : List Bool) → cost (zeros_and k word) (zeros_and k received) (kept_and k marks) ≡ cost word received marks
+cost-zeros_and : (k : ℕ) (word received : List ℕ) (marks : List Bool) → cost (zeros_and k word) (zeros_and k received) (kept_and k marks) ≡ cost word received marks
 unfolding cost
-cost-front zero word received marks = refl
-cost-front (suc k) word received marks = zero-add _ ∙ cost-front k word received marks
+cost-zeros_and zero word received marks = refl
+cost-zeros_and (suc k) word received marks = zero-add _ ∙ cost-zeros_and k word received marks
 
-pub errors-front : (k : ℕ) (received word : List ℕ) (marks : List Bool)
+pub errors-zeros_and : (k : ℕ) (received word : List ℕ) (marks : List Bool)
     → error_count (zeros_and k received) (zeros_and k word) (kept_and k marks) ≡ error_count received word marks
 unfolding error_count
-errors-front zero received word marks = refl
-errors-front (suc k) received word marks = zero-add _ ∙ errors-front k received word marks
+errors-zeros_and zero received word marks = refl
+errors-zeros_and (suc k) received word marks = zero-add _ ∙ errors-zeros_and k received word marks
 
-pub marked-front : (k : ℕ) (marks : List Bool) → marked (kept_and k marks) ≡ marked marks
+pub marked-kept_and : (k : ℕ) (marks : List Bool) → marked (kept_and k marks) ≡ marked marks
 unfolding marked
-marked-front zero marks = refl
-marked-front (suc k) marks = zero-add _ ∙ marked-front k marks
+marked-kept_and zero marks = refl
+marked-kept_and (suc k) marks = zero-add _ ∙ marked-kept_and k marks
 
-pub marks-front : (k : ℕ) (lost : List ℕ) → lost_marks (zeros_and k lost) ≡ kept_and k (lost_marks lost)
+pub marks-zeros_and : (k : ℕ) (lost : List ℕ) → lost_marks (zeros_and k lost) ≡ kept_and k (lost_marks lost)
 unfolding lost_marks
-marks-front zero lost = refl
-marks-front (suc k) lost = ap (λ marks. false ∷ marks) (marks-front k lost)
+marks-zeros_and zero lost = refl
+marks-zeros_and (suc k) lost = ap (λ marks. false ∷ marks) (marks-zeros_and k lost)
 
 codeword-longer : (k n r : ℕ) (word : List ℕ) → IsCodeword n r word → IsCodeword (k + n) r (zeros_and k word)
 codeword-longer k n r word codeword = record {
   size = length-zeros_and k word ∙ ap (λ m. k + m) codeword.size;
   bytes = All-append IsByte (replicate k 0) word (All-replicate IsByte k 0 (omega arith)) codeword.bytes;
-  vanishes = λ j below. value-front k word (power alpha j) ∙ codeword.vanishes j below;
+  vanishes = λ j below. value-zeros_and k word (power alpha j) ∙ codeword.vanishes j below;
 }
 
 pub codeword-shorter : (t k n r : ℕ) (word : List ℕ) → t ≡ k + n → IsCodeword t r (zeros_and k word) → IsCodeword n r word
@@ -71,7 +71,7 @@ codeword-shorter t k n r word sum codeword =
           subst IsByte
           (get_or-append_right (replicate {A = ℕ} k 0) word k (k + i) d (length-replicate {A = ℕ} k 0) (omega arith) ∙ ap (λ p. get_or word p d) (omega arith))
           (codeword.bytes (k + i) d (omega (arith, length-zeros_and k word)));
-      vanishes = λ j below. sym (value-front k word (power alpha j)) ∙ codeword.vanishes j below;
+      vanishes = λ j below. sym (value-zeros_and k word (power alpha j)) ∙ codeword.vanishes j below;
     }
 
 near-longer : (k n r : ℕ) (received word : List ℕ) (marks : List Bool) → IsNear n r received marks word
@@ -80,7 +80,7 @@ near-longer k n r received word marks near = record {
   codeword = codeword-longer k n r word near.codeword;
   received_size = length-zeros_and k received ∙ ap (λ m. k + m) near.received_size;
   marks_size = length-kept_and k marks ∙ ap (λ m. k + m) near.marks_size;
-  within = subst (λ c. c ≤ r) (sym (cost-front k word received marks)) near.within;
+  within = subst (λ c. c ≤ r) (sym (cost-zeros_and k word received marks)) near.within;
 }
 
 near-shorter : (k n r : ℕ) (received word : List ℕ) (marks : List Bool) → length received ≡ n → length marks ≡ n
@@ -89,12 +89,12 @@ near-shorter k n r received word marks received_size marks_size near = record {
   codeword = codeword-shorter (k + n) k n r word refl near.codeword;
   received_size = received_size;
   marks_size = marks_size;
-  within = subst (λ c. c ≤ r) (cost-front k word received marks) near.within;
+  within = subst (λ c. c ≤ r) (cost-zeros_and k word received marks) near.within;
 }
 
 -- a list that begins with zeros
 pub begins-zeros : (k : ℕ) (whole : List ℕ) → take k whole ≡ replicate k 0 → whole ≡ zeros_and k (drop k whole)
-begins-zeros k whole front = sym (take-append-drop k whole) ∙ ap (λ zeros. zeros ++ drop k whole) front
+begins-zeros k whole prefix = sym (take-append-drop k whole) ∙ ap (λ zeros. zeros ++ drop k whole) prefix
 
 pub length-lost_marks : (lost : List ℕ) → length (lost_marks lost) ≡ length lost
 unfolding lost_marks
@@ -104,13 +104,13 @@ length-lost_marks lost = length-map lost (λ (byte : ℕ). not (byte == 0))
 pub found : (k n r : ℕ) (received full : List ℕ) (marks : List Bool) → k + n ≤ 255 → length received ≡ n → length marks ≡ n
     → near_of (k + n) r (zeros_and k received) (kept_and k marks) ≡ Some full → take k full ≡ replicate k 0
     → near_of n r received marks ≡ Some (drop k full)
-found k n r received full marks short received_size marks_size is front =
+found k n r received full marks short received_size marks_size is prefix =
     let near : IsNear (k + n) r (zeros_and k received) (kept_and k marks) full =
     near_of-is_near (k + n) r (zeros_and k received) full (kept_and k marks)
     (length-zeros_and k received ∙ ap (λ m. k + m) received_size) (length-kept_and k marks ∙ ap (λ m. k + m) marks_size) is in
     near_of-some n r received (drop k full) marks (omega arith)
     (near-shorter k n r received (drop k full) marks received_size marks_size
-    (subst (IsNear (k + n) r (zeros_and k received) (kept_and k marks)) (begins-zeros k full front) near))
+    (subst (IsNear (k + n) r (zeros_and k received) (kept_and k marks)) (begins-zeros k full prefix) near))
 
 -- Where nothing is found of the longer word that begins with zeros, nothing is found of the word.
 pub found-none : (k n r : ℕ) (received : List ℕ) (marks : List Bool) → k + n ≤ 255 → length received ≡ n → length marks ≡ n
@@ -140,11 +140,11 @@ encoded-end k n r message full small size encoded =
     let rest : k + n - r ≡ k + (n - r) = omega arith in
     let begins : take (k + (n - r)) full ≡ take (k + (n - r)) (zeros_and k message) =
     subst (λ m. take m full ≡ take m (zeros_and k message)) rest encoded.begins in
-    let front : take k full ≡ replicate k 0 =
+    let prefix : take k full ≡ replicate k 0 =
     sym (take-of_take k (n - r) full) ∙ ap (take k) begins ∙ take-of_take k (n - r) (zeros_and k message)
     ∙ take_at (replicate {A = ℕ} k 0) message k (length-replicate {A = ℕ} k 0) in
     record {
-      codeword = codeword-shorter (k + n) k n r (drop k full) refl (subst (IsCodeword (k + n) r) (begins-zeros k full front) encoded.codeword);
+      codeword = codeword-shorter (k + n) k n r (drop k full) refl (subst (IsCodeword (k + n) r) (begins-zeros k full prefix) encoded.codeword);
       begins = sym (drop-take k (n - r) full) ∙ ap (drop k) begins ∙ drop-take k (n - r) (zeros_and k message)
           ∙ ap (take (n - r)) (drop_at (replicate {A = ℕ} k 0) message k (length-replicate {A = ℕ} k 0));
     }

@@ -38,10 +38,10 @@ same_byte at i sums bytes are above below none =
     ∙ ap (λ n. get_or bytes n 0) here
 
 -- where neither eight differ, the first ten are the same
-pub same_front : (sums bytes : List ℕ) → length sums ≡ 16 → length bytes ≡ 10
+pub same_prefix : (sums bytes : List ℕ) → length sums ≡ 16 → length bytes ≡ 10
     → fold_l bit_or 0 (zip2 bit_or (unlike_from 0 sums bytes) (unlike_from 2 sums bytes)) ≡ 0
     → take 10 sums ≡ bytes
-same_front sums bytes size_s size_b none =
+same_prefix sums bytes size_s size_b none =
     let first = unlike_lanes 0 sums bytes (omega (arith, size_s)) (omega (arith, size_b)) (pick_l_left 0 sums sums 16 (range_with_len 0 8) size_s tt) in
     let last = unlike_lanes 2 sums bytes (omega (arith, size_s)) (omega (arith, size_b)) (pick_l_left 0 sums sums 16 (range_with_len 2 8) size_s tt) in
     let both = HoldsLanes-zip2 8 bit_or (unlike_from 0 sums bytes) (unlike_from 2 sums bytes) first.size last.size in

@@ -1,6 +1,0 @@
--- The proof of the law `image_stands_in_order` in src/laws.rt.
-use Rattle.dvd_layout.proofs.InOrder.{plan_of-in_order}
-use Rattle.dvd_layout.proofs.laws.image_stands_in_order.Goals as goal
-
-pub returns : goal.returns
-returns c = plan_of-in_order
