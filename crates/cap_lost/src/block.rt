@@ -4,8 +4,9 @@
 //! and `block K sector H6 layer L: round T` of one that `deep` gave back. `H6` and `H8` are hexadecimal digits.
 //!
 //! The clauses `some` say that a block that a line names has an image sector. So each line moves the draft on, which
-//! bounds its counts. `reader` asks for what is said here. `HasNumbers` says that the sector numbers of a block have 24
-//! bits, as in every plan, so that `H6` has them whole.
+//! bounds its counts. `reader` calls `block_said` for each line that begins with `block `. Where a test needs what
+//! comes after a prefix, a `match` answers false without one: the library has no `is_some_and`. `HasNumbers` says that
+//! the sector numbers of a block have 24 bits, as in every plan, so that `H6` has them whole.
 ghost use Rattle.std.specs.Prelude.{◌≡◌, ◌<◌, codes, option_map, IfOk};
 ghost use Rattle.dvd_layout.specs.Place.{HasNumbers};
 ghost use Rattle.cap_lost.specs.Blocks.{after_address, after_prefix, block_said, entry_said, extent_of, prefix_of, is_numbered, is_refusal, is_round, is_saved, is_some_and, what_said};
@@ -41,8 +42,8 @@ pub fn block_said(
     place_said(layout, k, &layout.plan(zones, k), line)
 }
 
-// What a line of block `k`, which has this entry, says.
-// A line of another layout is reported as such, whatever the block of that number holds in this one.
+// What a line of block `k`, which has this entry, says. A line of another layout is reported as such, whatever the
+// block of that number holds in this one: so the place is tested before the sectors.
 fn place_said(layout: &Layout, k: u64, plan: &BlockPlan, line: &[u8]) -> Result<Said, ReportCause>
     requires { HasNumbers plan.now }
     ensures said { result ≡ after_prefix layout.now plan.now (without_prefix (prefix_of k plan.now) line.now) }
@@ -53,7 +54,8 @@ fn place_said(layout: &Layout, k: u64, plan: &BlockPlan, line: &[u8]) -> Result<
         return Err(ReportCause::Place);
     };
     let extent = extent_of(layout, plan.content);
-    // `recover` and `deep` decode no such block, so they write no line of it.
+    // `recover` and `deep` decode no such block, so they write no line of it. After this test `from` is below `to`, as
+    // `what_said` requires.
     if extent.to <= extent.from {
         return Err(ReportCause::NoImage);
     }
@@ -61,7 +63,8 @@ fn place_said(layout: &Layout, k: u64, plan: &BlockPlan, line: &[u8]) -> Result<
 }
 
 // What each line of block `k` begins with: its number, its first sector number and its layer. It is made and compared
-// with the line, so that no part of it needs a reader.
+// with the line, so that no part of it needs a reader. `put_block` is what writes the lines of `dvdecc`, so the two
+// can't differ. It puts at most 50 bytes, and a `Line` has room for 256.
 fn prefix_of(k: u64, plan: &BlockPlan) -> Line
     requires { HasNumbers plan.now }
     ensures { result ≡ prefix_of k plan.now }
@@ -73,8 +76,8 @@ fn prefix_of(k: u64, plan: &BlockPlan) -> Line
 }
 
 // The image sectors of a block: none in a block of another zone, and fewer than sixteen in the last of the image, whose
-// other sectors are padding. They end with the image at the latest, so the sum fits 32 bits. From 0 to 0 there are
-// none, which the caller tests.
+// other sectors are padding. A block has at most sixteen, and they end with the image at the latest, so neither the
+// cast nor the sum cuts. From 0 to 0 there are none, which the caller tests.
 fn extent_of(layout: &Layout, content: Content) -> Extent
     ensures { result ≡ extent_of layout.now content }
 {
@@ -88,7 +91,8 @@ fn extent_of(layout: &Layout, content: Content) -> Extent
 }
 
 // `recover` writes the first kind alone, and `deep` both. A block that a round gave back is in the image, so it isn't
-// lost. It is kept all the same, as the next line has to name a later block.
+// lost. It is kept all the same, as the next line has to name a later block. No text is both, so the order of the tests
+// is free.
 fn what_said(extent: Extent, what: &[u8]) -> Result<Said, ReportCause>
     requires { extent.from < extent.to }
     ensures said { result ≡ what_said extent what.now }
@@ -104,7 +108,9 @@ fn what_said(extent: Extent, what: &[u8]) -> Result<Said, ReportCause>
 }
 
 // Whether this is the cause of a refused block, and how many of its frames were salvaged. A number is below the count
-// of what it numbers: 182 columns, 208 rows, 16 frames. `rows` counts failed rows, of which there may be 208.
+// of what it numbers: 182 columns, 208 rows, 16 frames. `rows` counts failed rows, of which there may be 208. The
+// numbers have no part in the map, so that only these bounds are tested. Each name ends with a blank, so no text has
+// two of them: their order is free.
 fn is_refusal(what: &[u8]) -> bool
     ensures { result ≡ is_refusal what.now }
 {
@@ -137,8 +143,8 @@ fn is_address(what: &[u8]) -> bool
     }
 }
 
-// What comes after the frame that names another place, and the ID found in it. Neither is used. By itself, as `?` needs
-// a function that answers an option.
+// What comes after the frame that names another place, and the ID found in it. Neither is used. It is a function by
+// itself, as `?` needs a function that answers an option.
 fn after_address<'a>(what: &'a [u8]) -> Option<&'a [u8]>
     ensures { option_map (λ rest. rest.now) result ≡ after_address what.now }
 {
@@ -148,8 +154,8 @@ fn after_address<'a>(what: &'a [u8]) -> Option<&'a [u8]>
     after_eight_digits(rest)
 }
 
-// Whether this is how many of sixteen frames were salvaged, and nothing more. Which frames these are isn't said, so all
-// sectors of the block count as lost.
+// Whether this is how many of sixteen frames were salvaged, from 0 to 16, and nothing more. Which frames these are
+// isn't said, so all sectors of the block count as lost.
 fn is_saved(rest: &[u8]) -> bool
     ensures { result ≡ is_saved rest.now }
 {
@@ -159,8 +165,8 @@ fn is_saved(rest: &[u8]) -> bool
     }
 }
 
-// Whether this is the round that gave a block back. `deep` has at most four, counted from 1. `after_number` would
-// accept a round 0 too.
+// Whether this is the round that gave a block back. `deep` has at most four, counted from 1. They are compared as
+// texts, since `after_number` would accept a round 0 too.
 fn is_round(what: &[u8]) -> bool
     ensures { result ≡ is_round what.now }
 {

@@ -1,7 +1,8 @@
 //! The line that closes a report. It says how far the run came, and so how much of the image was written. It is `done`,
 //! `damaged: N blocks` or `long` of a whole image, `short: block K, B bytes` or `bad marks: block K, byte A` of one
 //! that stopped, and `read fault` or `write fault`. Lines of runs that wrote no image, as `usage`, close no such
-//! report. `reader` asks for what is said here.
+//! report. `reader` calls `closing_said`. A form with numbers is a function by itself, since `?` leaves it where a part
+//! is missing.
 ghost use Rattle.std.specs.Prelude.{◌≡◌, ◌<◌, length, take, IfOk, IfSome, IfNone};
 ghost use Rattle.dvd_layout.specs.Place.{image_before, image_sectors};
 ghost use Rattle.dvd_layout.specs.Plan.{plan_of};
@@ -50,8 +51,9 @@ fn is_fault(line: &[u8]) -> bool
     is_text(line, b"read fault") || is_text(line, b"write fault")
 }
 
-// How many blocks were refused, where the report is of a whole image. The draft compares it with the lines that came,
-// and `damaged: 0 blocks`, which `dvdecc` doesn't write, is read as `done`.
+// How many blocks were refused, where the report is of a whole image. `done` counts none, so that it isn't believed
+// after a damage line. The draft compares the count with the lines that came, and `damaged: 0 blocks`, which `dvdecc`
+// doesn't write, is read as `done`.
 fn counted_in(line: &[u8]) -> Option<u64>
     ensures { result ≡ counted_in line.now }
 {
@@ -66,7 +68,8 @@ fn counted_in(line: &[u8]) -> Option<u64>
     }
 }
 
-// The block in which the run stopped: it wasn't whole, or its marks broke a rule. How many bytes came of it isn't used.
+// The block in which the run stopped: it wasn't whole, or its marks broke a rule. The second number, of bytes, may be
+// any: it isn't used. No line has both forms, so their order is free.
 fn stopped_in(line: &[u8]) -> Option<u64>
     ensures { result ≡ stopped_in line.now }
 {
@@ -114,7 +117,7 @@ fn stopped_at(layout: &Layout, zones: Zones, k: u64) -> Result<Said, ReportCause
 
 // How many image sectors the blocks before one hold: the first of the next block that has any, or all. Blocks of the
 // lead-in and other zones hold none, so the next that holds some is looked for. Blocks hold the image in its order, so
-// nothing need be added up.
+// nothing need be added up. The arm `None` is written out, since there the proof uses that such a block adds nothing.
 fn written_before(layout: &Layout, zones: Zones, k: u64) -> u32
     requires { k < length (plan_of layout.now zones) }
     ensures { result ≡ image_before layout.now (take k (plan_of layout.now zones)) }

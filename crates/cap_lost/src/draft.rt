@@ -118,7 +118,7 @@ impl LossesDraft {
     }
 
     // Adds an extent, to the last one where that ends at its first sector. So the map has one line for sectors that are
-    // lost together.
+    // lost together. Its order isn't tested here: `pass` has done so.
     fn lose(&mut self, extent: Extent) -> Result<(), ReportStop>
         ensures added { OnOk result (self.new.extents.items ≡ with_extent self.old.extents.items extent) }
         ensures memory { IfErr result (λ stop. stop ≡ ReportStop.NoMemory) }
@@ -146,7 +146,8 @@ impl LossesDraft {
         }
     }
 
-    // Gives the last extent another end. `lose` has found one; without any nothing would change.
+    // Gives the last extent another end. `lose` has found one by `ends_at`; without any nothing would change, so that
+    // no clause has to say that there is one.
     fn lengthen(&mut self, to: u32)
         ensures longer { self.new.extents.items ≡ with_end self.old.extents.items (last_of self.old.extents.items) to }
         ensures next { self.new.next ≡ self.old.next }
@@ -159,7 +160,7 @@ impl LossesDraft {
     }
 
     // Ends with this number of written sectors. The count of damage lines is compared, so that a report with a line
-    // missing isn't believed.
+    // missing isn't believed. It is compared first: where both rules are broken, the definition names `Count`.
     fn end(&mut self, refused: Option<u64>, written: u32) -> Result<(), ReportStop>
         ensures added { OnOk result (with_said (sayings_of self.old) (Said.Ended refused written) ≡ Ok (sayings_of self.new)) }
         ensures rule { IfErr result (IsStopOf (with_said (sayings_of self.old) (Said.Ended refused written))) }

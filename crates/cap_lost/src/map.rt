@@ -23,13 +23,16 @@ const TOGETHER: usize = 64;
 // spaces, a status and a line feed.
 type Lines = ArrayVec<u8, 3584>;
 
-// What comes before the blocks. Its state is that of a run of ddrescue that is done.
+// What comes before the blocks. Its state is that of a run of ddrescue that is done: `+` in its first pass, at position
+// 0.
 static HEAD: &[u8] =
     b"# Mapfile. Created by dvdcap\n# current_pos  current_status  current_pass\n0x00000000     +               1\n#      pos        size  status\n";
 
 /// Writes the map of an image of `total` sectors, some thousand bytes at once. After a fault a prefix of it was
 /// written. That the extents ascend, and end within `written`, and this within `total`, is what holds of the answer of
 /// `read_report`, by `losses_are_in_order` of `laws`. It isn't required here: the map is as defined for any numbers.
+/// `at` is the sector up to which there are lines. The extents are cut by hand, since the proof of the loop speaks of
+/// those that are left.
 pub fn write_map<K: Sink>(lost: &Lost, total: u32, out: &mut K) -> Result<(), WriteFault>
     ensures { IsWritten (map_text lost.now.extents.items lost.now.written total) (K.seen out.old) (K.seen out.new) result }
 {
@@ -61,7 +64,8 @@ fn write_extents<K: Sink>(at: u32, extents: &[Extent], out: &mut K) -> Result<u3
 }
 
 // Writes the lines after the last extent: `+` up to what was written, and `?` to the end of the image. Either may be
-// missing. There are always these two at most, so they go out together.
+// missing. There are always these two at most, so they go out together. `Lines` has room for many more: it is the type
+// for which `put_line` is made.
 fn write_last<K: Sink>(at: u32, written: u32, total: u32, out: &mut K) -> Result<(), WriteFault>
     ensures { IsWritten (last_lines at written total) (K.seen out.old) (K.seen out.new) result }
 {
@@ -122,8 +126,8 @@ fn put_number(lines: &mut Lines, number: u64)
     put_digits(lines, number, if number < 1 << 32 { 8 } else { 9 });
 }
 
-// Puts the last `width` hexadecimal digits of a number, the highest first. As `put_hexadecimal` of a `Line`, which has
-// numbers of 32 bits alone.
+// Puts the last `width` hexadecimal digits of a number, the highest first, since the lines grow at their end alone. As
+// `put_hexadecimal` of a `Line`, which has numbers of 32 bits alone.
 fn put_digits(lines: &mut Lines, number: u64, width: u32)
     requires digits { width ≤ 9 }
     requires room { array_vec_len lines.old + width ≤ 3584 }

@@ -1,5 +1,7 @@
 //! Texts and numbers at the beginning of a text: the parts of which lines are read. Nothing is passed over: what isn't
 //! as `dvdecc` writes it is refused, even a zero or a blank too many. `block`, `closing` and `reader` call these.
+//! `is_text` and `without_prefix` are one call of the library each. Its clauses speak of elements of any type; those
+//! here are the definitions that the clauses of the callers use.
 ghost use Rattle.std.specs.Prelude.{◌≡◌, ◌≤◌, length, bytes_eq, option_map};
 ghost use Rattle.std.specs.List.{list_all};
 ghost use Rattle.cap_lost.specs.Prefixes.{without_prefix, after_number, after_eight_digits, digits_of, is_capital_digit, number_first};
@@ -7,7 +9,7 @@ ghost use Rattle.cap_lost.specs.Prefixes.{without_prefix, after_number, after_ei
 use cap_map::digits_in;
 use itoa::Buffer;
 
-/// Whether a text is this one.
+/// Whether a text is this one. Comparing with `==` in its place would answer the same.
 pub fn is_text(text: &[u8], other: &[u8]) -> bool
     ensures { result ≡ bytes_eq text.now other.now }
 {
@@ -44,7 +46,8 @@ fn count_digits(text: &[u8]) -> usize
     text.iter().take_while(|byte| byte.is_ascii_digit()).count()
 }
 
-/// What comes after a number below a bound, if a text begins with one.
+/// What comes after a number below a bound, if a text begins with one. The number isn't handed on: its callers test the
+/// form alone.
 pub fn after_number<'a>(text: &'a [u8], bound: u64) -> Option<&'a [u8]>
     ensures { option_map (λ rest. rest.now) result ≡ after_number bound text.now }
 {
@@ -68,13 +71,14 @@ pub fn after_eight_digits<'a>(text: &'a [u8]) -> Option<&'a [u8]>
     }
 }
 
+// For the eight digits of its caller. Of no bytes it holds, as the definition has it.
 fn are_capital_digits(text: &[u8]) -> bool
     ensures { result ≡ list_all is_capital_digit text.now }
 {
     text.iter().all(|byte| is_capital_digit(*byte))
 }
 
-// `dvdecc` writes no small letters, so these are refused.
+// `dvdecc` writes no small letters, so these are refused. `is_ascii_hexdigit` would accept them.
 fn is_capital_digit(byte: u8) -> bool
     ensures { result ≡ is_capital_digit byte }
 {

@@ -2,8 +2,10 @@
 //! but for its extents.
 //!
 //! `goes_on` in the clauses is the result of a report that has these bytes after those that came. A fault is that of
-//! each report that begins so. `HasReadOn` counts a line as 129 bytes, so that each byte is progress and `read_report`
-//! ends. `report` reads by it. At `NoMemory` nothing is claimed of the report.
+//! each report that begins so. `IsReaderSound` says that the number of a line is at most `next` of the draft and two
+//! more, so that it fits 64 bits, and that the line that has begun has at most 128 bytes, none of them a line feed.
+//! `HasReadOn` counts a line as 129 bytes, so that each byte is progress and `read_report` ends. `report` reads by it.
+//! At `NoMemory` nothing is claimed of the report.
 ghost use Rattle.std.specs.Prelude.{◌≡◌, ◌+◌, ◌<◌, ◌≤◌, ◌++◌, [], ◌∷◌, ℕ, List, Ok, codes, length, IfOk, OnOk, IfErr};
 ghost use Rattle.cap_lost.specs.Inner.{HasReadOn, IsCounted, IsReaderSound, IsStopOf, NamesSectors, StopsAs, closing_count, goes_on, sayings_of};
 ghost use Rattle.cap_lost.specs.Report.{IsFaultOf, line_read, losses_of, word_said};
@@ -25,7 +27,7 @@ use std::alloc::Global;
 const LONGEST: usize = 128;
 
 /// A report of this layout, as far as it came: what its whole lines say, and the number and the bytes of the next line.
-/// The number counts from 1, for the fault.
+/// The number counts from 1, for the fault. It has no view of its own: the clauses look at its fields.
 #[derive(Drop)]
 pub struct Reader {
     layout: Layout,
@@ -65,7 +67,8 @@ impl Reader {
         Ok(())
     }
 
-    // Byte by byte, since a piece may begin and end within a line.
+    // Byte by byte, since a piece may begin and end within a line. A line feed alone ends a line: a carriage return is
+    // kept, and no line with one has a form that is read.
     fn take_byte(&mut self, byte: u8) -> Result<(), ReportFault>
         requires sound { IsReaderSound self.old }
         ensures read { OnOk result ((rest : List ℕ) → goes_on self.old (byte ∷ rest) ≡ goes_on self.new rest) }
@@ -83,8 +86,8 @@ impl Reader {
         Ok(())
     }
 
-    // Reads the line that came, as one that a line feed ends. The clauses `_last` are for a last line without line
-    // feed.
+    // Reads the line that came, as one that a line feed ends. The memory of the line is kept for the next. At `Err` the
+    // line stays, as the reader is given up. The clauses `_last` are for a last line without line feed.
     fn end_line(&mut self) -> Result<(), ReportFault>
         requires sound { IsReaderSound self.old }
         ensures read { OnOk result ((rest : List ℕ) → goes_on self.old (10 ∷ rest) ≡ goes_on self.new rest) }
@@ -156,8 +159,8 @@ impl Reader {
 }
 
 // Nothing may come after the closing line, whatever it says. It is no method, since the line and the draft are parts of
-// the reader, and the draft alone changes. By definition a line over 128 bytes is refused; `take_byte` has done so
-// before (`short`).
+// the reader, and the draft alone changes. A method would borrow the whole reader. By definition a line over 128 bytes
+// is refused; `take_byte` has done so before (`short`).
 fn read_line(
     layout: &Layout,
     zones: Zones,
