@@ -32,7 +32,8 @@ pub fn put_row_lines(page: &mut Page, plot: &Plot)
 }
 
 // A line of the axis of rows, 70 units above the one before it: seven of them reach 420. It begins 4 units left of the
-// plot, as a tick. Its number is 5 units lower, since a text is placed by the foot of its letters.
+// plot, as a tick. Its number is that of the rows, `scale` for each unit. It is 5 units lower, since a text is placed
+// by the foot of its letters. It ends at 54, which leaves 6 units before the tick.
 fn put_row_line(page: &mut Page, plot: &Plot, i: u16)
     requires room { length page.old ≤ 5000 }
     requires width { plot.now.width ≤ 4999 }
@@ -82,7 +83,8 @@ pub fn put_limit(page: &mut Page, plot: &Plot)
 }
 
 /// Puts the axis of blocks, and where layer 1 begins. Without a block there are no ticks: their places are parts of the
-/// number of blocks.
+/// number of blocks. The word `block` is at 580, between the numbers of the ticks at 562 and the band of failed rows at
+/// 592.
 pub fn put_block_axis(page: &mut Page, cells: &[Cell], plot: &Plot)
     requires room { length page.old ≤ 802700 }
     requires few { length cells.now ≤ 2097152 }
@@ -148,8 +150,8 @@ fn first_on_layer_1(cells: &[Cell]) -> u32
     cells.iter().take_while(|cell| cell.layer != 1).count() as u32
 }
 
-// The ticks of the axis: at most six. At the ends of five parts, or at each block where there are fewer. The last is at
-// the right edge, where the blocks end, and has their number.
+// The ticks of the axis: at most six. At the ends of five parts, or at each block where there are fewer. Any number
+// would do by which the texts don't touch. The last is at the right edge, where the blocks end, and has their number.
 fn put_block_ticks(page: &mut Page, blocks: u32, width: u16)
     requires room { length page.old ≤ 802900 }
     requires some { 0 < blocks }
@@ -204,7 +206,8 @@ pub fn put_lower_frame(page: &mut Page, plot: &Plot)
 }
 
 /// Closes the band of failed rows, and puts what opens that of refused blocks. Between them are the lines of the first,
-/// at 0 rows and on its left, and its two numbers.
+/// at 0 rows and on its left, and its two numbers. 208 rows are 52 units, so 0 is at 644. The numbers are lower than
+/// their places, by the foot of their letters. In the group of the marks 0 is the left upper corner of their band.
 pub fn put_marks_frame(page: &mut Page, plot: &Plot)
     requires room { length page.old ≤ 1485000 }
     ensures bytes { page.new ≡ page.old ++ marks_frame plot.now }

@@ -1,5 +1,6 @@
 //! The columns of a picture, as rectangles and marks. The clauses say how many bytes each has at most, of which
-//! `picture` makes the bound of the whole; `room` is what the parts before have at most, rounded up.
+//! `picture`, which calls those that are public, makes the bound of the whole; `room` is what the parts before have at
+//! most, rounded up.
 //!
 //! A column is some blocks one after the other. `sum8` is the number of PI error rows in a block and the seven before
 //! it, at most 1,664; ECMA-267 allows 280. `scale` says how many rows are as high as a unit of the picture. A shape has
@@ -32,7 +33,8 @@ pub fn put_bars(page: &mut Page, cells: &[Cell], plot: &Plot)
     }
 }
 
-// Puts a bar. It has no `y`: the plot counts upwards, so that a bar begins at the lower edge.
+// Puts a bar. It has no `y`: the plot counts upwards, so that a bar begins at the lower edge. Its class comes right
+// after `<rect`, so the text of the class begins with a blank.
 fn put_bar(page: &mut Page, column: &Column, scale: u16)
     requires room { length page.old + 200 ≤ 2000000 }
     requires scale { scale ≤ 4 }
@@ -50,7 +52,7 @@ fn put_bar(page: &mut Page, column: &Column, scale: u16)
     put_mark(page, column, scale);
 }
 
-// The class of a bar above the limit.
+// The class of a bar above the limit. 280 itself is allowed.
 fn put_class(page: &mut Page, sum8: u16)
     requires room { length page.old + 10 ≤ 2000000 }
     ensures bytes { page.new ≡ page.old ++ over_class sum8 }
@@ -62,7 +64,8 @@ fn put_class(page: &mut Page, sum8: u16)
 }
 
 // Which blocks a column has. A browser shows it where the mouse is. The text begins with what ends the last attribute
-// of the shape.
+// of the shape. The caller puts its number and `</title>` after it. 44 is its greatest length: 24 bytes of text and two
+// numbers of at most 10 digits.
 fn put_title(page: &mut Page, column: &Column)
     requires room { length page.old + 44 ≤ 2000000 }
     ensures bytes { page.new ≡ page.old ++ title column.now }
@@ -85,8 +88,9 @@ fn put_mark(page: &mut Page, column: &Column, scale: u16)
     }
 }
 
-// Heights in the plot are rows: it is 440 × `scale` high, and the mark 14 × `scale`. So it is 14 units high by any
-// scale, and above the highest line of the axis, which is at 420.
+// Heights in the plot are rows: it is 440 × `scale` high, and the mark 14 × `scale`. So the mark is 14 units high by
+// any scale. It goes down from the upper edge by `v-`, since heights grow upwards, and is above the highest line of the
+// axis, which is at 420.
 fn put_mark_at(page: &mut Page, column: &Column, scale: u16)
     requires room { length page.old + 60 ≤ 2000000 }
     requires scale { scale ≤ 4 }
@@ -129,7 +133,7 @@ fn put_failed_bar(page: &mut Page, column: &Column)
 }
 
 // The mark is below the bar, since the bar of one row is hardly seen. It is 16 rows high, for which the band has room
-// below 0.
+// below 0: there `v-` goes down too.
 fn put_failed_rows(page: &mut Page, column: &Column)
     requires room { length page.old + 170 ≤ 2000000 }
     ensures bytes { page.new ≡ page.old ++ failed_rows_bar column.now }
@@ -173,7 +177,8 @@ fn put_refused_mark(page: &mut Page, column: &Column)
     }
 }
 
-// A triangle with its upper corner in the middle of the column, 10 units wide and 14 high.
+// A triangle with its upper corner in the middle of the column, 10 units wide and 14 high. Its band has 16 units; any
+// size that fits would do.
 fn put_triangle(page: &mut Page, column: &Column)
     requires room { length page.old + 110 ≤ 2000000 }
     ensures bytes { page.new ≡ page.old ++ triangle column.now }

@@ -1,5 +1,6 @@
 //! The blocks that share a column of a picture. A disk has more blocks than a picture has columns. Where a survey has
-//! fewer, there are as many columns as blocks, so that none is without a block. `bars` draws them.
+//! fewer, there are as many columns as blocks, so that none is without a block. `bars` draws them. 2,097,152, or 2^21,
+//! is the most blocks that cap_survey keeps, and 4,999 the greatest width that `plot_of` gives.
 ghost use Rattle.std.specs.Prelude.{◌≡◌, ◌<◌, ◌≤◌, ◌+◌, length};
 ghost use Rattle.cap_draw.specs.Columns.{column_of};
 ghost use Rattle.cap_draw.specs.Plot.{share};
@@ -51,7 +52,8 @@ pub fn column_of(cells: &[Cell], plot: &Plot, c: u16) -> Column
 }
 
 // Where part `k` of a whole begins and ends. A part ends where the next begins, so that each block is in one column and
-// no width is lost.
+// no width is lost. A width added to each beginning would lose what isn't shared evenly. The bounds are those of
+// `share`.
 fn part(k: u32, whole: u32, parts: u32) -> (u32, u32)
     requires within { k < parts }
     requires few { parts ≤ 2097152 }

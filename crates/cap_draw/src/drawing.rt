@@ -1,5 +1,5 @@
 //! Reads a survey, and writes its picture. Nothing is written before the last line was read, so that a survey that
-//! breaks a rule leaves no picture.
+//! breaks a rule leaves no picture. cap_top calls `draw`; the rest is private.
 ghost use Rattle.std.specs.Prelude.{◌≡◌, ◌<◌, ◌≤◌, [], IfOk, IfErr};
 ghost use Rattle.cap_draw.specs.Drawn.{HasDrawn, HasRead, HasWritten, IsSurveyStop};
 ghost use Rattle.cap_survey.specs.Survey.{nothing_read};
@@ -47,14 +47,16 @@ pub fn draw<S: Source, K: Sink>(alloc: Global, most: u16, src: &mut S, out: &mut
 }
 
 // Reads a survey to its end: how many bytes of a last line that is cut there are. `Err` is the end of the drawing: a
-// failed read, or the first line that breaks a rule, after which no more is read.
+// failed read, or the first line that breaks a rule, after which no more is read. Each fault is made an end here, so
+// that `draw` hands it on as it is.
 fn read_survey<S: Source>(reading: &mut Reading, src: &mut S) -> Result<usize, DrawEnd>
     requires { reading.old ≡ record { read = nothing_read; line = [] } }
     ensures read { IfOk result (λ left. HasRead (S.seen src.old) (S.seen src.new) (record { read = reading.new.read; left = left })) }
     ensures stop { IfErr result (IsSurveyStop (S.seen src.old) (S.seen src.new)) }
 {
     // A piece may end within a line: `Reading` puts lines together. It refuses a survey of 2^30 bytes, so the loop ends
-    // for any source. The length of a piece has no part in the result.
+    // for any source. The length of a piece has no part in the result: any would do, and a longer one means fewer
+    // reads.
     let mut piece = [0; 32768];
     loop {
         match src.read(&mut piece) {

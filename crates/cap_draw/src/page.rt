@@ -63,7 +63,7 @@ impl Page {
         self.put(Buffer::new().format(number).as_bytes());
     }
 
-    /// Puts a text and a number of 32 bits: at most 10 digits.
+    /// Puts a text and a number of 32 bits: at most 10 digits. Numbers of blocks are such, in a column and on the axis.
     pub fn put_count(&mut self, text: &[u8], number: u32)
         requires room { length self.old + length text.now + 10 ≤ 2000000 }
         ensures bytes { self.new ≡ self.old ++ text.now ++ decimal number }
@@ -73,7 +73,7 @@ impl Page {
         self.put(Buffer::new().format(number).as_bytes());
     }
 
-    /// Puts a text and a number: at most 20 digits.
+    /// Puts a text and a number of 64 bits: at most 20 digits. The totals are such.
     pub fn put_long(&mut self, text: &[u8], number: u64)
         requires room { length self.old + length text.now + 20 ≤ 2000000 }
         ensures bytes { self.new ≡ self.old ++ text.now ++ decimal number }

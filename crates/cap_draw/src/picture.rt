@@ -14,9 +14,9 @@ use crate::plot::{Plot, plot_of};
 use crate::words::{put_head, put_legend, put_totals};
 use cap_survey::Cell;
 
-/// Puts the picture of these blocks in at most `most` columns; a survey that isn't closed is cut. It has at most
-/// 2,000,000 bytes. That holds by what each part has at most: with 4,000 columns the bars, failed rows and marks have
-/// 1,920,000 bytes.
+/// Puts the picture of these blocks in at most `most` columns, which is `--width` of `dvdcap draw`; a survey that isn't
+/// closed is cut. It has at most 2,000,000 bytes. That holds by what each part has at most: with 4,000 columns the
+/// bars, failed rows and marks have 1,920,000 bytes.
 pub fn put_picture(page: &mut Page, cells: &[Cell], closed: bool, most: u16)
     requires empty { page.old ≡ [] }
     requires few { length cells.now ≤ 2097152 }
@@ -53,7 +53,7 @@ fn put_upper_part(page: &mut Page, cells: &[Cell], closed: bool, plot: &Plot)
 }
 
 // The bands of failed rows and of refused blocks, and the legend. They have at most 170 and 110 bytes for each of 4,000
-// columns, and 1,460 besides.
+// columns, and 1,460 besides. 804,000 is what the upper part has at most.
 fn put_lower_part(page: &mut Page, cells: &[Cell], plot: &Plot)
     requires room { length page.old ≤ 804000 }
     requires few { length cells.now ≤ 2097152 }

@@ -15,7 +15,8 @@ pub struct Plot {
     pub columns: u16,
 }
 
-/// The plot of some blocks with at most `most` columns.
+/// The plot of some blocks with at most `most` columns. The lesser of the two numbers is at most 4,000, so the cast
+/// cuts nothing.
 pub fn plot_of(cells: &[Cell], most: u16) -> Plot
     requires some { 0 < most }
     requires most { most ≤ 4000 }
@@ -60,7 +61,8 @@ fn scale_for(peak: u16) -> u16
 }
 
 /// Where part `k` begins, if a whole is shared among `parts` parts. The product is of 64 bits, since each factor may be
-/// 2^21. Part `parts`, which is none, gives the end of the last. Blocks, widths and ticks are all shared by it.
+/// 2^21. Part `parts`, which is none, gives the end of the last. Blocks, widths and ticks are all shared by it, in
+/// `column` and `axes`: so a tick is about where the column of its block is.
 pub fn share(k: u32, whole: u32, parts: u32) -> u32
     requires some { 0 < parts }
     requires within { k ≤ parts }

@@ -1,9 +1,9 @@
 //! The totals in words, and the legend. With them the picture needs no page beside it.
 //!
 //! `sum8` is the number of PI error rows in a block and the seven before it; ECMA-267 allows 280. The clauses `room`
-//! say what the parts of the picture before have at most, rounded up, and `len` what a part adds at most; `picture`
-//! adds these up. A function puts what one definition of `specs` says, so what may be missing has two: whether it is
-//! there, and what it is.
+//! say what the parts of the picture before have at most, rounded up, and `len` what a part adds at most; `picture`,
+//! which calls those that are public, adds these up. A function puts what one definition of `specs` says, so what may
+//! be missing has two: whether it is there, and what it is.
 ghost use Rattle.std.specs.Prelude.{◌≡◌, ◌≤◌, ◌+◌, ◌++◌, length};
 ghost use Rattle.cap_draw.specs.Words.{counts_text, cut_line, cut_text, head, legend, lower_legend, peak_text, totals_text};
 
@@ -12,7 +12,8 @@ use cap_survey::{Cell, Totals, totals_of};
 
 /// Puts what a picture begins with: its size, its classes, a white ground and its heading. 64 units on the left and 44
 /// on the right are for axes and numbers. The classes are `g` for grey lines, `k` for black and `d` for dashed ones,
-/// `u` for bars, `o` for what is black and `f` for failed rows.
+/// `u` for bars, `o` for what is black and `f` for failed rows. The picture is 800 units high: the legend ends above.
+/// Nothing comes before the heading, and `room` is rounded up.
 pub fn put_head(page: &mut Page, width: u16)
     requires room { length page.old ≤ 100 }
     requires width { width ≤ 4999 }
@@ -38,7 +39,8 @@ pub fn put_head(page: &mut Page, width: u16)
 }
 
 /// Puts the totals in words. They say that the survey is cut, where it is. They are counted of the blocks, since a
-/// survey that is cut has no line of totals.
+/// survey that is cut has no line of totals. Their lines are at 52, 70 and 90, between the heading at 28 and the plot
+/// at 100.
 pub fn put_totals(page: &mut Page, cells: &[Cell], columns: u16, closed: bool)
     requires room { length page.old ≤ 1000 }
     requires few { length cells.now ≤ 2097152 }
@@ -103,8 +105,9 @@ fn put_peak(page: &mut Page, totals: &Totals)
 }
 
 /// Puts what the colours and the marks mean, and ends the picture: nothing comes after it. Its pieces of colour are
-/// drawn by the classes of the picture itself. A page has room for 2,000,000 bytes, and `room` is far from it: how much
-/// more is left than this needs means nothing.
+/// drawn by the classes of the picture itself. Its lines are 20 units one below the other, after the band of refused
+/// blocks, which ends at 672. A page has room for 2,000,000 bytes, and `room` is far from it: how much more is left
+/// than this needs means nothing.
 pub fn put_legend(page: &mut Page)
     requires room { length page.old ≤ 1940000 }
     ensures bytes { page.new ≡ page.old ++ legend }
@@ -121,7 +124,7 @@ pub fn put_legend(page: &mut Page)
     put_lower_legend(page);
 }
 
-// Puts what the bands below the plot show.
+// Puts what the bands below the plot show, and ends the file: it is the last part.
 fn put_lower_legend(page: &mut Page)
     requires room { length page.old ≤ 1991000 }
     ensures bytes { page.new ≡ page.old ++ lower_legend }
