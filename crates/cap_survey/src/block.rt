@@ -19,7 +19,8 @@ pub struct BlockLine {
     pub refused: bool,
 }
 
-/// What a line says, if it is that of a block.
+/// What a line says, if it is that of a block. `survey` tries each line by it first; one of totals isn't such, by its
+/// first word.
 pub fn block_line(line: &[u8]) -> Option<BlockLine>
     ensures { result ≡ block_line line.now }
 {
@@ -65,7 +66,8 @@ fn refused_by(answer: &[u8]) -> Option<bool>
     }
 }
 
-// Whether there is a text, and nothing in it. So `whole` has to be all of the answer.
+// Whether there is a text, and nothing in it. So `whole` has to be all of the answer. Comparing the answer with `whole`
+// would say the same: the definition goes by what comes after it, as for all parts of a line.
 fn is_empty_text(text: Option<&[u8]>) -> bool
     ensures { result ≡ is_empty_text (option_map (λ s. s.now) text.entry) }
 {
@@ -76,6 +78,7 @@ fn is_empty_text(text: Option<&[u8]>) -> bool
 }
 
 // Whether a text is one of the causes for which a block is refused. Which one isn't kept, so its number may be any.
+// Each name ends with a blank, so no text has two of them: their order is free.
 fn is_cause(text: &[u8]) -> bool
     ensures { result ≡ is_cause text.now }
 {

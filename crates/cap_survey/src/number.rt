@@ -50,7 +50,8 @@ fn count_digits(text: &[u8]) -> usize
     text.iter().take_while(|byte| byte.is_ascii_digit()).count()
 }
 
-// The number that decimal digits write, if it is below 10^18.
+// The number that decimal digits write, if it is below 10^18. The bound is tested digit by digit, so that no number of
+// digits is too many.
 fn value_of(digits: &[u8]) -> Option<u64>
     ensures { result ≡ with_digits 0 digits.now }
 {
@@ -77,13 +78,14 @@ fn with_digit(value: u64, byte: u8) -> Option<u64>
     }
 }
 
-/// Whether all of a text are hexadecimal digits, in capitals.
+/// Whether all of a text are hexadecimal digits, in capitals. Its callers test how many there are.
 pub fn are_hexadecimal(text: &[u8]) -> bool
     ensures { result ≡ are_hexadecimal text.now }
 {
     text.iter().all(|byte| is_hexadecimal(*byte))
 }
 
+// `dvdecc` writes no small letters, so these are refused.
 fn is_hexadecimal(byte: u8) -> bool
     ensures { result ≡ is_hexadecimal byte }
 {

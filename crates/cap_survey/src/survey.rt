@@ -52,7 +52,7 @@ impl ReadSurvey {
     }
 
     /// Reads one more line, which is given without its line feed. A line that breaks a rule leaves the survey as it
-    /// was.
+    /// was: `Reading` makes the line number of the fault of it afterwards.
     pub fn add(&mut self, line: &[u8]) -> Result<(), SurveyCause>
         ensures read { OnOk result (line_read self.old line.now ≡ Ok self.new) }
         ensures rule { IfErr result (λ cause. line_read self.old line.now ≡ Err cause) }
@@ -60,7 +60,8 @@ impl ReadSurvey {
         ensures next { OnOk result (next_line self.new ≡ next_line self.old + 1) }
         ensures bound { OnOk result (next_line self.new ≤ 2097154) }
     {
-        // `Reading` gives no longer line, but the rule is one of lines, whoever reads them.
+        // `Reading` gives no longer line, but the rule is one of lines, whoever reads them. Here and below the first
+        // rule that is broken is named, in the order of the definition.
         if line.len() > LINE {
             return Err(SurveyCause::Form);
         }
@@ -171,8 +172,9 @@ fn cell_of(cells: &[Cell], block: &BlockLine) -> Result<Cell, SurveyCause>
     })
 }
 
-// The PI error rows of the last seven blocks. At the beginning there are fewer. The bound is seven times the greatest
-// number of 8 bits, since the clauses don't say that a kept count is at most 208.
+// The PI error rows of the last seven blocks. At the beginning there are fewer. They are summed anew for each block,
+// since a running sum would have to be kept right beside the cells. The bound is seven times the greatest number of 8
+// bits, since the clauses don't say that a kept count is at most 208.
 fn sum_of_seven(cells: &[Cell]) -> u64
     requires { length cells.now ≤ 2097152 }
     ensures sum { result ≡ sum_by pi_of (last_seven cells.now) }

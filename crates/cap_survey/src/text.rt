@@ -1,4 +1,5 @@
-//! A survey that comes in pieces of any length, put together line by line.
+//! A survey that comes in pieces of any length, put together line by line. cap_draw reads the pieces, and calls what is
+//! public.
 //!
 //! `reading_on` in the clauses is the result of a survey that has these bytes after those that came. `progress` grows
 //! with each byte and is below 2^30, so that a loop over a survey without end comes to a line that breaks a rule. A
@@ -57,7 +58,8 @@ impl Reading {
         Ok(())
     }
 
-    // Reads a byte: a line feed ends the line that has begun, and any other is kept.
+    // Reads a byte: a line feed ends the line that has begun, and any other is kept. A carriage return is kept too, so
+    // that no line with one is that of a block or of totals.
     fn put(&mut self, byte: u8) -> Result<(), Fault>
         ensures read { OnOk result ((more : List ℕ) → reading_on self.old (byte ∷ more) ≡ reading_on self.new more) }
         ensures rule { IfErr result (λ fault. (more : List ℕ) → reading_on self.old (byte ∷ more) ≡ Err fault) }
@@ -75,7 +77,8 @@ impl Reading {
         Ok(())
     }
 
-    // Reads the line that has begun, of which all bytes came. Its memory is kept for the next.
+    // Reads the line that has begun, of which all bytes came. Its memory is kept for the next. Where it breaks a rule
+    // it stays, as nothing is promised then.
     fn end_line(&mut self) -> Result<(), Fault>
         ensures read { OnOk result ((more : List ℕ) → reading_on self.old (10 ∷ more) ≡ reading_on self.new more) }
         ensures rule { IfErr result (λ fault. (more : List ℕ) → reading_on self.old (10 ∷ more) ≡ Err fault) }

@@ -71,7 +71,8 @@ pub fn totals_of(cells: &[Cell]) -> Totals
     }
 }
 
-/// The PI error rows of some blocks, all together.
+/// The PI error rows of some blocks, all together. `survey` calls it too, and needs `bound`, by which a sum of eight
+/// blocks fits 16 bits. So it is a loop, whose invariant has the bound.
 pub fn sum_pi(cells: &[Cell]) -> u64
     requires { length cells.now ≤ 2097152 }
     ensures sum { result ≡ sum_by pi_of cells.now }
@@ -84,7 +85,7 @@ pub fn sum_pi(cells: &[Cell]) -> u64
     sum
 }
 
-// The failed rows of some blocks, all together.
+// The failed rows of some blocks, all together. Nothing rests on a bound of it, so that it is a sum of the library.
 fn sum_failed(cells: &[Cell]) -> u64
     requires { length cells.now ≤ 2097152 }
     ensures { result ≡ sum_by failed_in_cell cells.now }
@@ -92,7 +93,7 @@ fn sum_failed(cells: &[Cell]) -> u64
     cells.iter().map(|cell| u64::from(cell.failed)).sum()
 }
 
-// A count of rows in 64 bits. By itself, so that its clause gives the bound that a sum needs.
+// A count of rows in 64 bits. A function by itself, so that its clause gives the bound that a sum needs.
 fn widened(rows: u8) -> u64
     ensures same { result ≡ rows }
     ensures bound { result ≤ 255 }
@@ -116,7 +117,8 @@ fn count_over(cells: &[Cell]) -> u64
     cells.iter().filter(|cell| cell.sum8 > 280).count() as u64
 }
 
-/// The greatest `sum8` of some blocks, and 0 of none.
+/// The greatest `sum8` of some blocks, and 0 of none: it begins with 0, so that no blocks are no case of their own. The
+/// highest bar of a column and the scale of the plot are made of it too.
 pub fn greatest_sum8(cells: &[Cell]) -> u16
     ensures { result ≡ greatest_of sum8_of cells.now }
 {
