@@ -3,9 +3,10 @@
 //!
 //! `PlainCommand` is the trait of a command whose units, here frames, are read and written one after the other, with
 //! nothing before the first or after the last. The contracts of its functions are in the trait, by what `Marking` gives
-//! it: `units` says what is written of a frame, `ready` what holds before each, and `alone` that nothing is written
-//! besides. `Processed` is the kind of a frame, or how the loop ends in it. `AreDone` says which steps are done for a
-//! frame; where a write fails, only a first part of them is.
+//! it: `key` is what the units depend on, here the spans of the map; `units` says what is written of a frame, `ready`
+//! what holds before each, and `alone` that nothing is written besides. `AgreeFrom` says that two lists of spans say
+//! the same of each byte from one on. `Processed` is the kind of a frame, or how the loop ends in it. `AreDone` says
+//! which steps are done for a frame; where a write fails, only a first part of them is.
 ghost use Rattle.std.specs.Prelude.{◌≡◌, ◌<◌, ◌^◌, ◌-◌, ℕ, List, refl};
 ghost use Rattle.cap_map.specs.declared.span.Span.{Span as MapSpan};
 ghost use Rattle.cap_mark.specs.Frames.{IsMarked, mark_units};
@@ -67,7 +68,8 @@ impl<'a, S: Source, K: Sink, E: Sink> PlainCommand<S, K, E> for Marking<'a> {
     // Reads frame `k` and writes it with its marks. Where it doesn't come whole, nothing of it is written. No frame has
     // a line in the report.
     fn process(&mut self, k: u32, src: &mut S, out: &mut K, _report: &mut E) -> Processed {
-        // 13 rows of 182 bytes. All of them come before the first is written.
+        // 13 rows of 182 bytes. All of them come before the first is written, so that a frame that is cut leaves no
+        // part.
         let mut frame = [0; 2366];
         read_unit(src, k, &mut frame)?;
         // The place in the map moves only once the frame came whole.
@@ -79,8 +81,9 @@ impl<'a, S: Source, K: Sink, E: Sink> PlainCommand<S, K, E> for Marking<'a> {
 }
 
 /// Writes the recording frames of a capture with the marks of their rows, one after the other. The loop wants a report,
-/// but no frame has a line: so it gets a sink that keeps nothing, and `follows` holds of any report. `ends` says which
-/// ends there are: the report fails in none, no block is damaged, and a `Short` names a frame below 2^32 - 1.
+/// but no frame has a line: so it gets a sink that keeps nothing, and `follows` holds of any report: the streams have
+/// moved as the units say. `ends` says which ends there are: the report fails in none, no block is damaged, and a
+/// `Short` names a frame below 2^32 - 1.
 pub fn mark_loop<S: Source, K: Sink>(spans: &[Span], src: &mut S, out: &mut K) -> LoopEnd
     ensures follows { (report : Seen) → HasEnded (IsOutcome (mark_units spans.now))
         (streams (S.seen src.old) (K.seen out.old) report) (streams (S.seen src.new) (K.seen out.new) report) result }
@@ -95,7 +98,8 @@ pub fn mark_loop<S: Source, K: Sink>(spans: &[Span], src: &mut S, out: &mut K) -
 }
 
 // Writes frame `k` with the marks of its rows. Of the spans only those after its first byte are needed. No frame is
-// bad, whatever its marks: `Good` lets the loop go on.
+// bad, whatever its marks: `Good` lets the loop go on. The clause speaks of `k`, so the number of the first byte is
+// made of it here too.
 fn write_frame<K: Sink>(spans: &[Span], k: u32, frame: &[u8; 2366], out: &mut K) -> Processed
     ensures { (source report : Seen) → AreDone (IsMarked spans.now k frame.now)
         (streams source (K.seen out.old) report) (streams source (K.seen out.new) report) result }

@@ -48,7 +48,7 @@ fn put(out: &mut MarkedFrame, bytes: &[u8])
     ensures items { out.new.items ≡ out.old.items ++ bytes.now }
     ensures len { array_vec_len out.new ≡ array_vec_len out.old + length bytes.now }
 {
-    // It can't fail: the clause says that there is room.
+    // It can't fail: the clause says that there is room. So the answer is dropped.
     let _ = out.try_extend_from_slice(bytes);
 }
 
@@ -68,7 +68,7 @@ fn put_marks(spans: &[Span], start: u64, out: &mut MarkedFrame)
 }
 
 // Puts the mark bytes of a row of both kinds, one by one. It is right for any row; `put_marks` calls it for few, since
-// it is slow.
+// it is slow. 8 × n is the first place of byte n, and spans before it are passed as in `put_rows`.
 fn put_mixed(spans: &[Span], start: u64, out: &mut MarkedFrame)
     requires room { array_vec_len out.old + 23 ≤ 2665 }
     requires start { start + 182 < 2 ^ 64 }
@@ -96,7 +96,8 @@ fn mark_byte(spans: &[Span], start: u64, place: u64) -> u8
     byte as u8
 }
 
-// The first place of eight is the highest bit. The number has 16 bits, so that one bound serves all eight turns.
+// The first place of eight is the highest bit, as in the marked form: each mark moves those before it up. The number
+// has 16 bits, so that one bound serves all eight turns.
 fn with_mark(byte: u16, mark: bool) -> u16
     requires { byte < 2 ^ 15 }
     ensures { result ≡ 2 * byte + bit_of mark }

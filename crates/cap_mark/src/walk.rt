@@ -18,14 +18,15 @@ pub fn spans_from<'a>(spans: &'a [Span], place: u64) -> &'a [Span]
     left
 }
 
-/// What a map says of all bytes of a row, if it is one thing and the first of these spans shows it. `None` promises
-/// nothing, as two spans of a row may say the same: the caller asks byte by byte then.
+/// What a map says of all 182 bytes of a row, if it is one thing and the first of these spans shows it. The first span
+/// that ends after a byte has it, so a first span that ends after the last byte has all. `None` promises nothing, as
+/// two spans of a row may say the same: the caller asks byte by byte then.
 pub fn whole_row(spans: &[Span], start: u64) -> Option<bool>
     requires { start + 182 < 2 ^ 64 }
     ensures { IfSome result (λ rescued. (j : ℕ) → j < 182 → is_rescued spans.now (start + j) ≡ rescued) }
 {
     match spans.first() {
-        // The map ends before this row.
+        // No span is left for this row: the map says nothing of it.
         None => Some(false),
         Some(span) if start + 182 <= span.end => Some(span.rescued),
         Some(_) => None,
