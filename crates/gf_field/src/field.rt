@@ -10,7 +10,8 @@ use crate::powers::{LOGARITHMS, POWERS};
 /// The number of different powers of alpha: alpha^255 is 01.
 const ORDER: u32 = 255;
 
-/// The sum of two elements, which is their difference too. Only tests call it: all others write `^`, which is the same.
+/// The sum of two elements, which is their difference too. Only tests call it: it is here to state that `^`, which all
+/// others write, is the sum of the field.
 #[inline]
 pub fn add(a: u8, b: u8) -> u8
     ensures { result ≡ plus a b }
@@ -18,7 +19,8 @@ pub fn add(a: u8, b: u8) -> u8
     a ^ b
 }
 
-/// The product of two elements. Two exponents are at most 508 together, which is a place of the table of powers.
+/// The product of two elements. Two exponents are at most 508 together, which is a place of the table of powers. A
+/// product with 0 is tested first, since 0 has no logarithm.
 #[inline]
 #[tactic(auto, using(crate::proofs::Logarithms::products))]
 pub fn mul(a: u8, b: u8) -> u8
@@ -30,7 +32,8 @@ pub fn mul(a: u8, b: u8) -> u8
     power_at(exponent(a) + exponent(b))
 }
 
-/// The inverse of an element that isn't 0. The exponents of both add up to 255, as alpha^255 is 1.
+/// The inverse of an element that isn't 0. The exponents of both add up to 255, as alpha^255 is 1. For 01 the place is
+/// 255 itself, where the table has alpha^0 once more. To divide 01 by it would take one look-up more.
 #[inline]
 #[tactic(auto, using(crate::proofs::Logarithms::inverse_by_powers))]
 pub fn inv(a: u8) -> u8
@@ -82,6 +85,7 @@ fn exponent(a: u8) -> usize
     ensures below { result < 255 }
     ensures reaches { power alpha result ≡ a }
 {
+    // Place 0 of the table is there so that no element needs a subtraction.
     LOGARITHMS[a as usize] as usize
 }
 
