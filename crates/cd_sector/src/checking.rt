@@ -43,7 +43,8 @@ pub fn check(sector: &[u8; 2352], address: u32) -> Result<(), CdCause>
     check_contents(sector, address)
 }
 
-/// Likewise for a sector whose words are all codewords. `repair` calls it so, since it has tested the words before.
+/// Likewise for a sector whose words are all codewords. `repair` calls it so, since it has tested the words before. The
+/// order of the tests is that of `IsCause`: the contract says which cause is the first.
 pub(crate) fn check_contents(sector: &[u8; 2352], address: u32) -> Result<(), CdCause>
     requires address { address < 450000 }
     requires words { AreRightBelow 138 sector.now }
@@ -73,10 +74,12 @@ pub(crate) fn first_wrong_word(sector: &[u8; 2352]) -> Option<u16>
         return Some(word as u16);
     }
     let word = first_fault(&q_faults(sector))?;
+    // A Q word's own number is counted from the first Q word on. All numbers are below 138.
     Some((P_WORDS + word) as u16)
 }
 
-// The place of the first byte that isn't 0.
+// The place of the first byte that isn't 0. The loop stops there: a byte for each word is tested, in the words' order.
+// `position` of an iterator would do too.
 fn first_fault(faults: &[u8]) -> Option<usize>
     ensures some { IfSome result (λ k. (k < length faults.now) × (slice_index faults.now k ≢ 0)
         × ((i : ℕ) → i < k → slice_index faults.now i ≡ 0)) }

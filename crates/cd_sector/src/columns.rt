@@ -27,7 +27,8 @@ pub(crate) fn faults<const W: usize>(rows: &[[u8; W]]) -> [u8; W]
     faults
 }
 
-/// Two rows that make each column a codeword when they follow the others.
+/// Two rows that make each column a codeword when they follow the others, the first of them first. All columns are
+/// encoded at once, which `Code` does word by word.
 pub(crate) fn parity<const W: usize>(rows: &[[u8; W]]) -> [[u8; W]; 2]
     requires { 32 ≤ W }
     ensures codewords { (j : ℕ) → j < W
@@ -45,8 +46,8 @@ pub(crate) fn parity<const W: usize>(rows: &[[u8; W]]) -> [[u8; W]; 2]
     [first, second]
 }
 
-// Sets the bytes of the 32 columns from `at` on. All before them stay; of those after nothing is said, since groups are
-// set from the first on.
+// Sets the bytes of the 32 columns from `at` on: 0 where both values are, else another number. All before them stay; of
+// those after nothing is said, since groups are set from the first on.
 #[inline(always)]
 fn put_faults<const W: usize>(rows: &[[u8; W]], at: usize, faults: &mut [u8; W])
     requires { at + 32 ≤ W }
@@ -101,7 +102,8 @@ fn values_at<const W: usize>(rows: &[[u8; W]], at: usize) -> [u8x32; 2]
     [sum, value]
 }
 
-// A step of Horner's rule at 1 and at alpha. Also ensures that the lanes of `row` are bytes.
+// A step of Horner's rule at 1, where no product is needed, and at alpha, which is 2. Also ensures that the lanes of
+// `row` are bytes.
 #[inline(always)]
 fn with_row(sum: u8x32, value: u8x32, row: u8x32) -> [u8x32; 2]
     ensures bytes { (j : ℕ) → j < 32 → slice_index row j < 256 }

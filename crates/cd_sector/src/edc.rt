@@ -24,6 +24,7 @@ pub fn cd_edc(bytes: &[u8]) -> [u8; 4]
 pub(crate) fn edc_of_parts(prefix: &[u8], back: &[u8]) -> [u8; 4]
     ensures { result ≡ cd_edc_of (prefix.now ++ back.now) }
 {
+    // The register has its highest power lowest, so its lowest byte comes first.
     with_bytes(with_bytes(0, prefix), back).to_le_bytes()
 }
 
@@ -52,6 +53,7 @@ fn with_chunks(register: u32, chunks: &[[u8; 16]]) -> u32
 }
 
 // Reads sixteen bytes at once: the whole register is added to the first four, and nothing of it is left for the others.
+// Its lowest byte leaves first, so it is added to the first byte. Halves are added up apart; any order would do.
 fn with_chunk(register: u32, chunk: [u8; 16]) -> u32
     ensures { result ≡ after_reading chunk register }
 {
@@ -72,6 +74,7 @@ fn with_chunk(register: u32, chunk: [u8; 16]) -> u32
 fn with_byte(register: u32, byte: u8) -> u32
     ensures { result ≡ after_steps 8 (bit_xor register byte) }
 {
+    // The remainder is a byte, so that the cast drops nothing.
     let leaving = (register % 256) as u8 ^ byte;
     register >> 8 ^ remainder_of(leaving)
 }

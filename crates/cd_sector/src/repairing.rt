@@ -40,14 +40,15 @@ pub fn repair(sector: &mut [u8; 2352], address: u32) -> Result<u16, CdCause>
     Ok(changes)
 }
 
-// Repairs all words, unless all are right, and returns the number of the first that still isn't a codeword.
+// Repairs all words, unless all are right, and returns the number of the first that still isn't a codeword. P words
+// come first, since those that are lost mark bytes of the Q words.
 fn repair_words(sector: &mut [u8; 2352]) -> Option<u16>
     ensures words { sector.new ≡ with_q_words sector.old (with_p_words sector.old 86) 52 }
     ensures size { length sector.new ≡ 2352 }
     ensures some { IfSome result (λ word. (word < 138) × (IsRight sector.new word → ⊥) × AreRightBelow word sector.new) }
     ensures none { result ≡ None → AreRightBelow 138 sector.new }
 {
-    // Most sectors are right as they were read.
+    // Most sectors are right as they were read. In the others the words are tested again, each kind before its repair.
     if first_wrong_word(sector).is_none() {
         return None;
     }
@@ -78,7 +79,8 @@ fn repair_p_words(sector: &mut [u8; 2352]) -> [bool; 86]
 }
 
 // Repairs the Q words, in which bytes of lost P words are marked. They are tested after the P words are repaired. They
-// have no byte in common either. A Q word with no codeword near it stays: the test of all words then finds it.
+// have no byte in common either. A Q word that is a codeword stays, with any marks: it is near itself, or has too many
+// marks for any to be near. One with no codeword near it stays too: the test of all words then finds it.
 fn repair_q_words(lost: &[bool; 86], sector: &mut [u8; 2352])
     ensures words { (read : List ℕ) → ((word : ℕ) → word < 86 → slice_index_or lost.now word false ≡ is_lost read word) → sector.new ≡ with_q_words read sector.old 52 }
     ensures size { length sector.new ≡ 2352 }
@@ -93,7 +95,8 @@ fn repair_q_words(lost: &[bool; 86], sector: &mut [u8; 2352])
 }
 
 // The marks of a Q word: its bytes in lost P words. Its two parity bytes are in no P word. The P words begin at byte
-// 12, and the bytes of each are 86 apart: so the place of a byte less 12 has the number of its P word as remainder.
+// 12, and the bytes of each are 86 apart: so the place of a byte less 12 has the number of its P word as remainder. A Q
+// word has 43 bytes before its parity.
 fn marks(lost: &[bool; 86], word: usize) -> [bool; 45]
     requires q_word { 86 ≤ word }
     requires word { word < 138 }
@@ -130,7 +133,7 @@ fn repair_word<const N: usize>(
     false
 }
 
-// Writes a word back to its places in the sector. All others stay.
+// Writes a word back to its places in the sector, those that `read_word` read it from. All others stay.
 fn write_word(bytes: &[u8], word: usize, sector: &mut [u8; 2352])
     requires word { word < 138 }
     requires bytes { length bytes.now ≡ word_size word }
@@ -142,7 +145,7 @@ fn write_word(bytes: &[u8], word: usize, sector: &mut [u8; 2352])
     }
 }
 
-// The number of bytes after the sync that differ. The sync isn't counted: it is set whatever it was.
+// The number of bytes after the sync that differ, at most 2,340. The sync isn't counted: it is set whatever it was.
 fn count_changes(old: &[u8; 2352], new: &[u8; 2352]) -> u16
     ensures { result ≡ distance (drop 12 old.now) (drop 12 new.now) }
 {

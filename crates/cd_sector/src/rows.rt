@@ -41,7 +41,8 @@ pub(crate) fn q_rows(sector: &[u8; 2352]) -> [[u8; 52]; 45]
 {
     let covered = covered_twice(sector);
     let mut rows = [[0; 52]; 45];
-    // A diagonal goes down one row of 86 bytes and two bytes further for each place of its words, 88 in all.
+    // A diagonal goes down one row of 86 bytes and two bytes further for each place of its words, 88 in all. 2,236 is
+    // the number of bytes that they go round in.
     for m in 0..43 {
         put_diagonals(&covered, 88 * m % 2236, &mut rows[m]);
     }
@@ -50,9 +51,9 @@ pub(crate) fn q_rows(sector: &[u8; 2352]) -> [[u8; 52]; 45]
     rows
 }
 
-// The bytes that the Q words cover, twice one after the other, so that a diagonal that leaves the first copy at its end
-// goes on in the second. So no place needs a remainder. This and the next are inlined into `q_rows`, their one caller;
-// no proof rests on that.
+// The 2,236 bytes that the Q words cover, twice one after the other, so that a diagonal that leaves the first copy at
+// its end goes on in the second. So no place needs a remainder. This and the next are inlined into `q_rows`, their one
+// caller; no proof rests on that.
 #[inline(always)]
 fn covered_twice(sector: &[u8; 2352]) -> [u8; 4472]
     ensures { (at : ℕ) → at < 4472 → slice_index result at ≡ slice_index sector.now (12 + at % 2236) }

@@ -38,7 +38,7 @@ pub(crate) fn header(address: u32) -> [u8; 3]
     ]
 }
 
-// Two decimal digits, of four bits each, as the standard has them.
+// Two decimal digits, of four bits each, as the standard has them: the tens are the high four.
 fn digits(number: u32) -> u8
     requires { number < 100 }
     ensures { result ≡ digits_of number }
@@ -63,7 +63,8 @@ fn set_data(address: u32, user: &[u8; 2048], out: &mut [u8; 2352])
     put(out, 2068, &[0; 8]);
 }
 
-/// Writes a part after the first `at` bytes, which stay. The contract says nothing of what comes after it.
+/// Writes a part after the first `at` bytes, which stay. The contract says nothing of what comes after it. It is a
+/// function, so that this is said once for all parts.
 pub(crate) fn put(out: &mut [u8], at: usize, part: &[u8])
     requires { at + length part.now ≤ length out.old }
     ensures { take (at + length part.now) out.new ≡ take at out.old ++ part.now }
@@ -77,6 +78,7 @@ fn set_p_words(sector: &mut [u8; 2352])
     ensures kept { (at : ℕ) → at < 2076 → slice_index sector.new at ≡ slice_index sector.old at }
     ensures size { length sector.new ≡ 2352 }
 {
+    // Of the 26 rows the last two are the parity that is to be set: what they have isn't read.
     let [first, second] = parity(&p_rows(sector)[..24]);
     // After 24 rows of 86 bytes from place 12 on come the two rows of P parity.
     put(sector, 2076, &first);
@@ -89,6 +91,7 @@ fn set_q_words(sector: &mut [u8; 2352])
     ensures kept { (at : ℕ) → at < 2248 → slice_index sector.new at ≡ slice_index sector.old at }
     ensures size { length sector.new ≡ 2352 }
 {
+    // The last two of 45 rows are the parity that is to be set. They are gathered too, and not read.
     let [first, second] = parity(&q_rows(sector)[..43]);
     // After all 26 rows come the two of Q parity, 52 bytes each.
     put(sector, 2248, &first);

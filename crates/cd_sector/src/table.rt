@@ -14,7 +14,8 @@ macro_rules! sums {
 }
 
 /// What 8, 16, 24 and 32 steps of the division leave of each byte in a register of zeros. The steps are linear: what
-/// they leave of a sum of bytes is the sum of what they leave of each.
+/// they leave of a sum of bytes is the sum of what they leave of each. Single bytes are divided by its first table, and
+/// the fourth word of sixteen bytes by all: so no table is named after that word.
 static NEAR: [[u32; 256]; 4] = [
     sums!([0] 0x90910101 0x91210201 0x92410401 0x94810801 0x99011001 0x82012001 0xB4014001 0xD8018001),
     sums!([0] 0x90019000 0x90002003 0x90034005 0x90058009 0x90080011 0x90130021 0x90250041 0x90490081),
@@ -81,7 +82,7 @@ pub(crate) fn remainder_of_first(word: [u8; 4]) -> u32
 }
 
 // What is left of four bytes, by the tables of four steps of eight. The first byte has the most steps, so it has the
-// last table.
+// last table. They are added up in the order of `after_word`, as the proof goes; any other gives the same.
 fn remainder_by(tables: &[[u32; 256]; 4], word: [u8; 4]) -> u32
     ensures { (n : ℕ) → tables.now ≡ tables_from n → result ≡ after_word n word }
 {

@@ -18,7 +18,8 @@ pub(crate) type PWord = Code<26, 2>;
 /// The code of a Q word.
 pub(crate) type QWord = Code<45, 2>;
 
-/// Fills `bytes` with the first bytes of a word, as many as there is room for.
+/// Fills `bytes` with the first bytes of a word, as many as there is room for; callers have room for all. It is for one
+/// word that is to be repaired: where all are tested, `rows` has them at once.
 pub(crate) fn read_word(sector: &[u8; 2352], word: usize, bytes: &mut [u8])
     requires word { word < 138 }
     requires size { length bytes.old ≤ word_size word }
