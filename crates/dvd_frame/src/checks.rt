@@ -30,8 +30,8 @@ pub fn ied(id: Id) -> [u8; 2]
     [word[4], word[5]]
 }
 
-/// The EDC of a list of bytes of any length: the remainder of its bits, as a polynomial times x^32,
-/// by x^32 + x^31 + x^4 + 1, most significant byte first.
+/// The EDC of a list of bytes of any length: the remainder of its bits, as a polynomial times x^32, by x^32 + x^31 +
+/// x^4 + 1, most significant byte first. Frames don't need it: it is for the C library.
 pub fn edc(bytes: &[u8]) -> [u8; 4]
     ensures { result ≡ edc_of bytes.now }
 {
@@ -46,6 +46,7 @@ pub(crate) fn edc_of_parts(prefix: &[u8], back: &[u8]) -> [u8; 4]
     ensures { result ≡ edc_of (prefix.now ++ back.now) }
 {
     let register = divide_parts(prefix, back);
+    // The most significant byte first; `to_be_bytes` would do too.
     let mut edc = [0; 4];
     BigEndian::write_u32(&mut edc, register);
     edc
@@ -56,8 +57,9 @@ pub(crate) fn edc_of_parts(prefix: &[u8], back: &[u8]) -> [u8; 4]
 fn divide_parts(prefix: &[u8], back: &[u8]) -> u32
     ensures { divided_from result [] ≡ divided_from 0 (prefix.now ++ back.now) }
 {
-    // The bytes of a frame before its EDC are 2,060. Only longer lists are divided word by word. The lengths are
-    // compared without a sum, which could overflow.
+    // The bytes of a frame before its EDC are 2,060. Only longer lists are divided word by word. A shorter one, which
+    // the C library alone may have, takes the steps of a frame. The lengths are compared without a sum, which could
+    // overflow.
     if prefix.len() <= 2080 && back.len() <= 2080 - prefix.len() {
         return folded(prefix, back);
     }

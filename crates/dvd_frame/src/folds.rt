@@ -47,7 +47,8 @@ fn push<const W: usize>(bytes: &mut [u8], at: usize, carried: Simd<u8, W>) -> Si
     taken
 }
 
-// Adds W bytes to those from a place on. All others stay.
+// Adds W bytes to those from a place on. All others stay. The contract puts zeros in front of them, as `plus_prefix`
+// adds at the front alone.
 #[inline(always)]
 fn add<const W: usize>(bytes: &mut [u8], at: usize, lanes: Simd<u8, W>)
     requires { at + W ≤ length bytes.old }

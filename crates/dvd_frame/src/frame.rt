@@ -34,6 +34,7 @@ pub fn make_frame_with(
     put(out, 6, cpr);
     // The EDC is of the bytes before scrambling, so it comes first.
     let check = edc_of_parts(&out[..12], main);
+    // `scramble_into` would write these bytes once, but it wants an array, and here they are a part of one.
     put(out, 12, main);
     put(out, 2060, &check);
     scramble_slice(scrambler, rule, id, &mut out[12..2060]);

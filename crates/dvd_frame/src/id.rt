@@ -45,7 +45,8 @@ impl Id {
             Area::LeadOut => 2 << 26,
             Area::Middle => 3 << 26,
         };
-        // The fields have no bit in common, so that they can be added up, as the definition does.
+        // The fields have no bit in common, so that they can be added up, as the definition does: a product and sums,
+        // where shifts and ORs would do too.
         let dim_bit = if dim { 1 << 29 } else { 0 };
         Id(dim_bit + area_bits + u32::from(layer) * (1 << 24) + number)
     }
@@ -64,7 +65,7 @@ impl Id {
         self.0
     }
 
-    /// The four bytes of the word, the most significant first.
+    /// The four bytes of the word, the most significant first, as a frame begins. `to_be_bytes` would do too.
     pub fn bytes(self) -> [u8; 4]
         ensures { result ≡ word_bytes self }
     {
@@ -73,7 +74,7 @@ impl Id {
         bytes
     }
 
-    /// The area that b27 and b26 name.
+    /// The area that b27 and b26 name. It is for the C library, where a block is read by an ID.
     pub fn area(self) -> Area
         ensures { area_number result ≡ self / 2 ^ 26 % 4 }
     {
@@ -81,6 +82,7 @@ impl Id {
             0 => Area::DataZone,
             1 => Area::LeadIn,
             2 => Area::LeadOut,
+            // Two bits are left, so this is 3.
             _ => Area::Middle,
         }
     }

@@ -4,7 +4,7 @@ ghost use Rattle.std.specs.Prelude.{◌≡◌, ◌+◌, ◌≤◌, ◌++◌, len
 use std::simd::prelude::*;
 
 // Writes a part after what comes before it. The contract says nothing of what comes after, since a list is written from
-// its first part on.
+// its first part on. It is a function, so that this is said once for all parts.
 pub(crate) fn put(out: &mut [u8], at: usize, part: &[u8])
     requires { at + length part.now ≤ length out.old }
     ensures { take (at + length part.now) out.new ≡ take at out.old ++ part.now }
@@ -12,7 +12,8 @@ pub(crate) fn put(out: &mut [u8], at: usize, part: &[u8])
     out[at..at + part.len()].copy_from_slice(part);
 }
 
-// The W bytes from a place on, of which more may follow. It is inlined, so that the vector needn't pass through memory.
+// The W bytes from a place on, of which more may follow: W is 32, 16, 8 or 4, the sizes of chunks. It is inlined, so
+// that the vector needn't pass through memory.
 #[inline(always)]
 pub(crate) fn load<const W: usize>(bytes: &[u8], at: usize) -> Simd<u8, W>
     requires { at + W ≤ length bytes.now }

@@ -92,12 +92,13 @@ pub fn has_right_ied(bytes: &[u8]) -> bool
     requires { 6 ≤ length bytes.now }
     ensures { result ≡ has_check (take 6 bytes.now) }
 {
+    // The test is of an array of six, so they are copied out of the row or the frame.
     let mut word = [0; 6];
     word.copy_from_slice(&bytes[..6]);
     Ied::new().is_codeword(&word)
 }
 
-// Sets Main Data to the frame's, with the scrambling bytes of this ID taken away.
+// Sets Main Data to the frame's, bytes 12 to 2059, with the scrambling bytes of this ID taken away.
 fn unscramble(
     scrambler: &mut Scrambler,
     frame: &[u8; 2064],

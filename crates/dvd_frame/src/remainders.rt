@@ -35,7 +35,8 @@ pub(crate) fn remainder_of(byte: u8) -> u32
 }
 
 /// What division leaves of eight bytes followed by 32 zeros: the sum of what it leaves of each, with zeros for the
-/// others.
+/// others. The first byte has seven after it, so it has the last table. Halves are added up apart, as the proof goes;
+/// any order gives the same.
 pub(crate) fn remainder_of_word(word: [u8; 8]) -> u32
     ensures { bits 32 result ≡ remainder 64 (bits_of word ++ replicate 32 0) }
 {

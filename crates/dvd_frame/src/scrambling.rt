@@ -47,8 +47,9 @@ impl Rule {
     }
 }
 
-/// The initial value of the register at one of the 16 places of the standard's table. No other crate calls it or has
-/// a `Keystream`; tests compare both with worked values.
+/// The initial value of the register at one of the 16 places of the standard's table. No other crate calls it or has a
+/// `Keystream`: they are public for the tests alone, which name them at the crate's root and compare both with worked
+/// values.
 pub fn preset(index: u8) -> u16
     requires { index < 16 }
     ensures value { result ≡ slice_index presets index }
@@ -82,7 +83,7 @@ impl Keystream {
     }
 
     /// The next scrambling byte. The contract is of any preset and any byte k of it at which the stream may be: the
-    /// stream itself knows neither.
+    /// stream itself knows neither. A stream has no end, so it is no iterator, which would answer an option.
     pub fn next(&mut self) -> u8
         ensures byte { (preset k : ℕ) → self.old ≡ window preset k → result ≡ scrambling_byte preset k }
         ensures after { (preset k : ℕ) → self.old ≡ window preset k → self.new ≡ window preset (k + 1) }
@@ -94,7 +95,7 @@ impl Keystream {
 }
 
 // Eight shifts at once: r6 to r0 move up by eight places, and the eight sums from r14 + r10 to r7 + r3 come in at the
-// end. None of the sums waits for another: the lowest bit in one is r3.
+// end. None of the sums waits for another: the lowest bit in one is r3. Times 256 is a shift by eight.
 fn shifted_by_byte(register: u16) -> u16
     requires { register < 2 ^ 15 }
     ensures within { result < 2 ^ 15 }
@@ -116,7 +117,7 @@ pub struct Scrambler {
 impl Scrambler {
     /// None are made yet. It has no `ensures`: the ghost field `made` says what the bytes are, whatever the preset is.
     pub fn new() -> Scrambler {
-        // A register of zeros shows zeros at each byte. No ID selects it.
+        // A register of zeros shows zeros at each byte. No ID selects it, so that the first one has its bytes made.
         Scrambler {
             preset: 0,
             bytes: [0; 2048],
@@ -181,7 +182,8 @@ pub(crate) fn scramble_into(
 }
 
 // Sets each byte to the sum of another and the key at its place. There may be more keys than bytes: all 2,048 are made
-// whatever the rule is, so that no list of keys has a length that varies.
+// whatever the rule is, so that no list of keys has a length that varies. No byte depends on another that is set here,
+// so that the compiler may do many at once, here and in `combine`.
 fn combine_into(bytes: &[u8], keys: &[u8], out: &mut [u8])
     requires bytes { length bytes.now ≡ length out.old }
     requires keys { length out.old ≤ length keys.now }
@@ -244,8 +246,8 @@ fn next_word(stream: &mut Keystream) -> u64
     u64::from_be_bytes(bytes)
 }
 
-// The eight bytes after these two words: each is the sum of those fifteen and eleven places before it, by the sequence
-// at m = 8. In the sixteen bytes of both words these begin at byte 1 and at byte 5.
+// The eight bytes after these two words, `word` and the `next` one: each is the sum of those fifteen and eleven places
+// before it, by the sequence at m = 8. In the sixteen bytes of both words these begin at byte 1 and at byte 5.
 fn word_behind(word: u64, next: u64) -> u64
     ensures { (preset k : ℕ) → to_be_bytes w64 word ≡ keys_from preset k 8 → to_be_bytes w64 next ≡ keys_from preset (k + 8) 8
         → to_be_bytes w64 result ≡ keys_from preset (k + 16) 8 }
