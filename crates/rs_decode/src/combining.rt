@@ -7,7 +7,8 @@ ghost use Rattle.rs_lanes.specs.Inner.Lanes.{HasLanes};
 
 use std::simd::prelude::*;
 
-/// Adds lanes to the sixteen bytes from place `at` on. All others stay.
+/// Adds lanes to the sixteen bytes from place `at` on. All others stay. It is for `values`, which adds a term's values
+/// group by group.
 #[inline(always)]
 pub fn add_lanes(bytes: &mut [u8], at: usize, lanes: u8x16)
     requires { at + 16 ≤ length bytes.old }
@@ -36,6 +37,7 @@ pub fn as_prefix<const N: usize>(list: &[u8]) -> [u8; N]
 pub fn moved_up(first: u8, lanes: u8x32) -> u8x32
     ensures { HasLanes result (λ k. slice_index (first ∷ lanes) k) }
 {
+    // Numbers below 32 are lanes of the vector of `first`, and those from 32 on are lanes of the other.
     u8x32::splat(first).shuffle(
         lanes,
         [

@@ -17,9 +17,9 @@ use thiserror::Error;
 #[error("no codeword agrees with the word at its unmarked places")]
 pub struct NoCodeword;
 
-/// Sets the bytes at the marked places so that `word` is a codeword, and answers how many places are marked.
-/// The bytes that were there don't count. After an error the word is unchanged. Only tests call it: decoders have
-/// syndromes at hand, and call `fill_from`.
+/// Sets the bytes at the marked places so that `word` is a codeword, and answers how many places are marked. The bytes
+/// that were there don't count. After an error the word is unchanged. Only tests call it, which try `fill_from` by it:
+/// decoders have syndromes at hand, and call that.
 pub fn fill<const N: usize, const R: usize>(
     code: &Code<N, R>,
     word: &mut [u8; N],

@@ -74,7 +74,8 @@ pub fn decode_from<const N: usize, const R: usize>(
     if erased > R {
         return Err(Beyond);
     }
-    // A codeword without marks is its own answer, as most words are. With marks the steps below find the same.
+    // A codeword without marks is its own answer, as most words are. One with at most R marks is too, but that is rare,
+    // and the steps below find it.
     if erased == 0 && are_zeros(&syndromes) {
         return Ok(Fix {
             errors: 0,
@@ -119,7 +120,7 @@ fn fill_located<const N: usize, const R: usize>(
     if locator.len == 0 {
         return fill_from(code, erasures, syndromes, word);
     }
-    // A copy, since other words may have the same marks and other errors.
+    // A copy, since other words may have the same marks and other errors. Places of errors are marked in it.
     let mut doubtful = erasures.marks;
     mark_zeros(locator.taps, &mut doubtful);
     // With a near codeword there are no more such places than the code has parity bytes.

@@ -30,6 +30,7 @@ pub fn bytes_at(points: &[u8], sums: &[u8]) -> ArrayVec<u8, 32>
     let evaluator = evaluator(points, sums).to_array();
     let mut bytes = ArrayVec::new();
     for i in 0..points.len() {
+        // There is a coefficient for each point: the lanes after them mean nothing.
         let value = value_at(&evaluator[..points.len()], points[i]);
         // No two points are equal, so that no derivative is 0.
         bytes.push(div(value, derivative(points, i)));
@@ -52,8 +53,8 @@ pub fn derivative(points: &[u8], i: usize) -> u8
     alpha_pow(before + after)
 }
 
-// The logarithm of the product of a point's distances to others, or that and a multiple of 255. No remainder is taken,
-// as `alpha_pow` takes any number.
+// The logarithm of the product of a point's distances to others, or that and a multiple of 255. A distance is a sum,
+// `^`. No remainder is taken, as `alpha_pow` reads any number of 32 bits.
 fn distance_exponent(point: u8, others: &[u8]) -> u32
     requires apart { All (λ other. point ≢ other) others.now }
     requires few { length others.now ≤ 32 }
@@ -99,7 +100,8 @@ pub fn times_distance(lanes: u8x32, point: u8) -> u8x32
     with_multiple(lanes, moved_up(0, lanes), point)
 }
 
-// The value of a polynomial at an element, the highest power first, by Horner's rule.
+// The value of a polynomial at an element, the highest power first, by Horner's rule. `value_at` of rs_code asks for
+// the logarithm of `x`, which isn't at hand here.
 fn value_at(polynomial: &[u8], x: u8) -> u8
     ensures { result ≡ value polynomial.now x }
 {

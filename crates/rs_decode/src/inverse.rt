@@ -21,7 +21,7 @@ use std::simd::prelude::*;
 
 /// The inverse of the matrix whose row k has the k-th powers of at most sixteen points: its row i, times power sums, is
 /// the byte at point i. It is as wide as there are points, and the rest are zeros. Sixteen bytes are a vector, and no
-/// code of a block has more parity bytes.
+/// code of a block has more parity bytes. Other crates have it within `Erasures` alone.
 #[derive(Drop)]
 pub struct Inverse {
     /// The points, none of which comes twice. Sixteen at most, though the list has the room of all lists of points.
@@ -85,6 +85,7 @@ fn basis(points: &[u8], i: usize) -> [u8; 32]
     ensures values { (j : ℕ) → j < length points.now
         → value (take (length points.now) result) (slice_index points.now j) ≡ (if i == j then 1 else 0) }
 {
+    // The derivative at point `i` is the product of its distances to the others, and isn't 0.
     let mut leading = [0; 32];
     leading[0] = inv(derivative(points, i));
     let before = times_distances(u8x32::from_array(leading), &points[..i]);

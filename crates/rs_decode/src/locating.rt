@@ -31,7 +31,8 @@ pub fn sums_without(points: &[u8], sums: &[u8]) -> ArrayVec<u8, 32>
     if sums.len() <= 16 {
         return first_lanes(without_points(points, sums), sums.len() - points.len());
     }
-    // The list has room for as many sums as there may be. It keeps those of the caller as they are.
+    // Only the C library has codes with more than sixteen parity bytes. The list has room for as many sums as there may
+    // be, so that `unwrap` can't fail. It keeps those of the caller as they are.
     let mut left: ArrayVec<u8, 32> = ArrayVec::try_from(sums).unwrap();
     for point in points {
         take_out_point(&mut left, *point);
@@ -61,7 +62,7 @@ pub fn mark_zeros(locator: ArrayVec<u8, 33>, marks: &mut [bool])
     let size = marks.len();
     let values = values_at_powers(&locator, size);
     for place in 0..size {
-        // Without a branch, so that many places are taken at once.
+        // The value at alpha^k is of the place that k others come after. No branch, so that many are done at once.
         marks[place] |= values[size - 1 - place] == 0;
     }
 }

@@ -70,8 +70,8 @@ impl Patches {
         ensures same { result ≡ false → word.new ≡ word.old }
     {
         let count = erasures.points.len();
-        // Where there is no inverse, the places aren't listed either. More than sixteen have none, but only the test of
-        // the count shows that.
+        // Only with an inverse does `Erasures` ensure that its list has the marked places. The test of the count is for
+        // the prover, which doesn't know that more than sixteen have no inverse.
         if self.wrong[n] != 0 || count > 16 || erasures.inverse.is_none() {
             return false;
         }
@@ -81,7 +81,7 @@ impl Patches {
     }
 
     // Adds the bytes for word `n` at its marked places; all other places stay. A clause asks for places of the word, so
-    // that none is tested here.
+    // that none is tested here. It is inlined into `fill`, which is called for each word.
     #[inline(always)]
     fn add_to(&self, places: &[u8], n: usize, word: &mut [u8])
         requires lane { n < 32 }
@@ -136,6 +136,7 @@ fn with_sum(points: &[u8], bytes: &[u8x32; 16], value: u8x32, k: usize) -> u8x32
 {
     let mut sum = value;
     for i in (0..points.len()).rev() {
+        // The k-th power of the point, from a row of a table: it has sixteen, and one is read.
         let powers = powers(log(points[i]) as usize).to_array();
         sum = with_multiple(sum, bytes[i], powers[k]);
     }

@@ -52,7 +52,9 @@ impl<const N: usize> Erasures<N> {
         }
     }
 
-    /// The places of these marks, unless they are more than `most`: for one word, or a few.
+    /// The places of these marks, unless they are more than `most`: for one word, or a few. `most` is the number of
+    /// parity bytes, as more marks have no codeword near. The list of places is a step to the points; without an
+    /// inverse nobody reads it.
     pub fn new(marks: &[bool; N], most: usize) -> Option<Self>
         requires room { most ≤ 32 }
         requires short { N ≤ 255 }
@@ -68,8 +70,9 @@ impl<const N: usize> Erasures<N> {
         })
     }
 
-    /// The same for many words, for which the inverse of the places' powers is made once. It pays from some ten words
-    /// on. The marked places are listed too, so that bytes are added there without logarithms.
+    /// The same for many words, as the columns of a block are, for which the inverse of the places' powers is made
+    /// once. It pays from some ten words on. The marked places are listed too, so that bytes are added there without
+    /// logarithms.
     pub fn shared(marks: &[bool; N], most: usize) -> Option<Self>
         requires room { most ≤ 32 }
         requires short { N ≤ 255 }
@@ -109,7 +112,7 @@ fn inverse_of(points: &[u8]) -> Option<Inverse>
     if points.len() > 16 {
         return None;
     }
-    // Sixteen fit into the list, which has room for 32.
+    // A copy, since the caller keeps its own list. Sixteen fit into it, which has room for 32.
     Some(Inverse::new(ArrayVec::try_from(points).unwrap()))
 }
 
@@ -162,7 +165,7 @@ fn point_of(size: usize, place: usize) -> u8
 }
 
 // Writes the marked places in order, from the first entry on. What the entries after them are isn't said: the caller
-// has to know how many are marked.
+// has to know how many are marked. It is an array and no list that grows, since an unmarked place is written too.
 fn gather_places(marks: &[bool], places: &mut [u8; 256])
     requires short { length marks.now ≤ 255 }
     ensures { ArePlaces marks.now (marked marks.now) places.new }
@@ -178,6 +181,7 @@ fn gather_places(marks: &[bool], places: &mut [u8; 256])
 /// Adds each byte to the place that has its point; all other places stay. Where the points are those of marked places,
 /// these are patched in order. Done twice it changes nothing, by which a caller takes it back. Also ensures that its
 /// elements are bytes. A point that no place of the word has is passed over, as the type of the points allows any byte.
+/// It goes by points, since the list of places is only ensured where there is an inverse.
 pub fn patch(word: &mut [u8], points: &[u8], bytes: &[u8])
     requires short { length word.old ≤ 255 }
     requires fits { length bytes.now ≡ length points.now }

@@ -34,9 +34,9 @@ struct Candidate {
     connections: u8x32,
 }
 
-/// The shortest register that generates `seq`, which has at most 32 bytes. It takes no memory and never fails.
-/// Where its length is more than half of the number of bytes, there may be others as short, of which this is one. Other
-/// crates call it in tests alone. 32 bytes are as many syndromes as a code has at most.
+/// The shortest register that generates `seq`, which has at most 32 bytes. It takes no memory and never fails. Where
+/// its length is more than half of the number of bytes, there may be others as short, of which this is one. No other
+/// crate calls it; tests name it at the crate's root. 32 bytes are as many syndromes as a code has at most.
 pub fn shortest(seq: &[u8]) -> Register
     requires { length seq.now ≤ 32 }
     ensures generates { Generates result.len result.taps.items seq.now }
@@ -49,7 +49,8 @@ pub fn shortest(seq: &[u8]) -> Register
         connections: u8x32::from_array(as_prefix(seq)),
     };
     // The register from before the length last changed, shifted to fail at the place at hand, and multiplied to fail by
-    // 1. While the length is 0 there is none, and x takes its place.
+    // 1. While the length is 0 there is none, and a power of x takes its place. That doesn't correct the first failure,
+    // and needn't: from there on the length is `place` + 1, and connections at places below that may be anything.
     let mut earlier = Candidate {
         taps: moved_up(1, register.taps),
         connections: moved_up(0, register.connections),
@@ -63,7 +64,8 @@ pub fn shortest(seq: &[u8]) -> Register
             // A copy, since it may become the earlier one.
             let before = register;
             register = mended(register, earlier, found);
-            // No register that generates the number here is shorter than `place + 1 - len`.
+            // No register that generates the number here is shorter than `place + 1 - len`. Where that is longer than
+            // `len`, it is the new length; else the old length is enough.
             if 2 * len <= place {
                 len = place + 1 - len;
                 first = inv(found);
@@ -80,7 +82,7 @@ pub fn shortest(seq: &[u8]) -> Register
     }
 }
 
-// A register with a multiple of another added, in taps and connections alike.
+// A register with a multiple of another added, in taps and connections alike: a connection is linear in the taps.
 #[inline(always)]
 fn mended(register: Candidate, other: Candidate, factor: u8) -> Candidate
     ensures taps { HasLanes result.taps (λ k. plus (slice_index register.taps k) (product (slice_index other.taps k) factor)) }
@@ -125,6 +127,7 @@ fn all_taps(lanes: u8x32, len: usize) -> ArrayVec<u8, 33>
     requires { len ≤ 32 }
     ensures { result.items ≡ take (len + 1) (1 ∷ lanes) }
 {
+    // The vector is put from place 1 on, so that the 1 at place 0 stays.
     let mut bytes = [1; 33];
     store(lanes, &mut bytes, 1);
     let mut taps = ArrayVec::from(bytes);

@@ -36,6 +36,7 @@ fn without(sums: u8x16, point: u8) -> u8x16
     ensures size { length result ≡ 16 }
     ensures each { (k : ℕ) → k < 15 → slice_index result k ≡ plus (slice_index sums (k + 1)) (product point (slice_index sums k)) }
 {
+    // Lane k gets lane k + 1; the number 16 is a lane of the zeros.
     let next = sums.shuffle(
         u8x16::splat(0),
         [1, 2, 3, 4, 5, 6, 7, 8, 9, 10, 11, 12, 13, 14, 15, 16],

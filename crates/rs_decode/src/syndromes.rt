@@ -22,18 +22,20 @@ pub fn syndromes<const N: usize, const R: usize>(
 ) -> ArrayVec<u8, 32>
     ensures { result.items ≡ syndromes_of R word.now }
 {
+    // More values than a vector has lanes, as only the C library's codes may have.
     if R > 16 {
         return code.syndromes(word);
     }
     // The codes of an ECC block divide by tables, which is shorter than to go over the whole word lane by lane. The
-    // remainder has the word's values.
+    // remainder has the word's values. The words of a CD-ROM sector are short, and other codes have no tables.
     if R == 10 || R == 16 {
         return first_lanes(values(&code.remainder(word)), R);
     }
     first_lanes(values(word), R)
 }
 
-/// Whether all numbers are 0.
+/// Whether all numbers are 0: whether a list of syndromes is that of a codeword. It stops at the first other one, which
+/// a damaged word mostly has at once.
 pub fn are_zeros(numbers: &[u8]) -> bool
     ensures { IsTrue result ↔ ((k : ℕ) → k < length numbers.now → slice_index numbers.now k ≡ 0) }
 {
@@ -45,7 +47,7 @@ pub fn are_zeros(numbers: &[u8]) -> bool
     true
 }
 
-/// The first lanes of a vector, as a list. They are at most sixteen, which always fit.
+/// The first lanes of a vector, as a list. They are at most sixteen, which always fit: `unwrap` can't fail.
 pub fn first_lanes(lanes: u8x16, count: usize) -> ArrayVec<u8, 32>
     requires lanes { length lanes ≡ 16 }
     requires few { count ≤ 16 }
@@ -68,8 +70,9 @@ pub fn power_sums(points: &[u8], bytes: &[u8]) -> u8x16
     sums
 }
 
-// The values of a word at alpha^0 to alpha^15: each byte counts as often as its power of alpha, to the power of the
-// lane. From the last byte on, as the definition adds a byte to the value of those after it.
+// The values of a word at alpha^0 to alpha^15, one in each lane. A byte that n others come after is the coefficient of
+// x^n: in lane k it is multiplied by alpha^(nk). From the last byte on, as the definition adds a byte to the value of
+// those after it.
 fn values(word: &[u8]) -> u8x16
     requires short { length word.now ≤ 255 }
     ensures { HoldsLanes 16 result (λ k. value word.now (power alpha k)) }

@@ -19,6 +19,7 @@ pub fn values_at_powers(polynomial: &[u8], count: usize) -> [u8; 256]
 {
     let mut values = [0; 256];
     for exponent in 0..polynomial.len() {
+        // The highest power comes first, so that of x^0 is the last.
         let coefficient = polynomial[polynomial.len() - 1 - exponent];
         add_term(&mut values, count.div_ceil(16), coefficient, exponent);
     }
