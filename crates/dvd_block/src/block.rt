@@ -1,5 +1,6 @@
 //! A block: its frames, its parity, its rows as they are recorded. It has 208 rows of 182 bytes: rows 12f to 12f+11 are
-//! frame f and the inner parity of its rows, and rows 192 to 207 are outer parity.
+//! frame f and the inner parity of its rows, and rows 192 to 207 are outer parity. A frame has 2,064 bytes, which is
+//! twelve times 172; with ten bytes of inner parity a row has 182.
 ghost use Rattle.std.specs.Prelude.{◌≡◌, ℕ, ◌+◌, ◌*◌, ◌/◌, ◌<◌, ◌≤◌, ◌⊎◌, ◌↔◌, IsTrue, ◌++◌, length, take, drop, IfOk, replicate, slice_index, EachIndex};
 ghost use Rattle.dvd_ports.specs.Whole.{IsWritten};
 ghost use Rattle.coding.specs.Product.{line, place};
@@ -11,7 +12,7 @@ use crate::parity::{fill_parity, is_product, place_cells};
 use dvd_ports::{NoMemory, Sink, WriteFault, write_whole};
 use std::alloc::Global;
 
-/// The bytes of a recorded block: 208 rows of 182 (ECMA-267, 19).
+// The bytes of a recorded block: 208 rows of 182 (ECMA-267, 19).
 const RECORDING: usize = 37_856;
 
 /// The rows of a block, with cells for its outer parity. Both are lent apart from each other. So one can be read while
@@ -47,7 +48,8 @@ impl Block {
         &self.lines.rows()[i]
     }
 
-    /// Sets places 0 to 171 of rows 12f to 12f+11 to the frame, and nothing else.
+    /// Sets places 0 to 171 of rows 12f to 12f+11 to the frame, and nothing else. The parity of these rows and columns
+    /// stays that of what was there: it is added once, after all sixteen frames.
     pub fn put_frame(&mut self, f: usize, frame: &[u8; 2064])
         requires { f < 16 }
         ensures frame { HoldsFrame f frame.now (block_rows self.new) }
@@ -58,8 +60,8 @@ impl Block {
         put_rows(&mut self.lines.rows_mut()[12 * f..12 * f + 12], frame);
     }
 
-    /// Writes frame `f`: places 0 to 171 of rows 12f to 12f+11. Commands read frames from captured rows, so that only
-    /// tests call this, as they do `is_product` below.
+    /// Writes frame `f`: places 0 to 171 of rows 12f to 12f+11. Only tests call it: commands read frames from captured
+    /// rows, which are no `Block`.
     pub fn get_frame(&self, f: usize, out: &mut [u8; 2064])
         requires { f < 16 }
         ensures { HoldsFrame f out.new (block_rows self.now) }
@@ -74,12 +76,13 @@ impl Block {
         ensures cells { cells_all self.new.cells ≡ replicate 182 (replicate 16 0) }
     {
         fill_parity(self.lines.rows_mut());
-        // This used no cell. `add_parity_par` of dvd_par does, and ensures the same: what cells had doesn't last, so
-        // that a caller may use either.
+        // No cell was used here. With several workers `add_parity_par` of dvd_par uses them, and calls this with one.
+        // Both ensure the same, so the cells are cleared here too.
         self.cells.clear();
     }
 
-    /// Whether each row and each column is a codeword.
+    /// Whether each row and each column is a codeword. Only tests call it: the C library has rows and no `Block`, and
+    /// calls the function of `parity`.
     pub fn is_product(&self) -> bool
         ensures { IsTrue result ↔ IsProduct (block_rows self.now) }
     {
@@ -95,7 +98,8 @@ impl Block {
 
     /// Sets place j of row 192+t to byte t of cell j, for all t below 16 and j below 182. All else stays. The cells
     /// have it by columns, as it was computed, and the rows need it by rows. It is for dvd_par, where several workers
-    /// fill the cells. `sizes` says what the type does: the prover doesn't know the length of an array in a list.
+    /// fill the cells; one worker has `add_parity`, which writes the rows at once. `sizes` says what the type does: the
+    /// prover doesn't know the length of an array in a list.
     pub fn place_parity(&mut self)
         ensures placed { (t j : ℕ) → t < 16 → j < 182 → place (block_rows self.new) (192 + t) j ≡ place (cells_all self.old.cells) j t }
         ensures sizes { (t : ℕ) → t < 16 → length (line (block_rows self.new) (192 + t)) ≡ 182 }
@@ -113,13 +117,13 @@ pub fn write_rows<K: Sink>(rows: &[[u8; 182]], out: &mut K) -> Result<(), WriteF
     ensures { IsWritten (recording rows.now) (K.seen out.old) (K.seen out.new) result }
 {
     // The rows are gathered, so that a block is one write where the sink accepts it whole. It is a function of rows,
-    // and no method, since captured rows are in another buffer.
+    // and no method, since the captured rows that `convert` writes are in another buffer.
     let mut bytes = [0; RECORDING];
     record_rows(rows, &mut bytes);
     write_whole(out, &bytes)
 }
 
-// Writes the first 172 bytes of twelve rows one after the other.
+// Writes the first 172 bytes of twelve rows one after the other: the frame without the inner parity.
 fn get_rows(rows: &[[u8; 182]], frame: &mut [u8; 2064])
     requires { length rows.now ≡ 12 }
     ensures { (q p : ℕ) → q < 12 → p < 172 → slice_index frame.new (172 * q + p) ≡ place rows.now q p }
@@ -129,7 +133,7 @@ fn get_rows(rows: &[[u8; 182]], frame: &mut [u8; 2064])
     }
 }
 
-// Writes the rows in the order of recording.
+// Writes the rows in the order of recording. It goes by recorded rows, so that the bytes are set from the first on.
 fn record_rows(rows: &[[u8; 182]], bytes: &mut [u8; RECORDING])
     requires { length rows.now ≡ 208 }
     ensures { bytes.new ≡ recording rows.now }
@@ -150,7 +154,8 @@ fn put_rows(rows: &mut [[u8; 182]], frame: &[u8; 2064])
     }
 }
 
-// Sets the first 172 bytes of a row. Its ten bytes of parity stay.
+// Sets the first 172 bytes of a row. Its ten bytes of parity stay. The row is passed as an array, whose length is known
+// to suffice for 172.
 fn put_data(row: &mut [u8; 182], prefix: &[u8])
     requires { length prefix.now ≡ 172 }
     ensures { row.new ≡ prefix.now ++ drop 172 row.old }

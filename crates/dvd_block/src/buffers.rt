@@ -76,7 +76,8 @@ impl Cells {
         &self.cells
     }
 
-    /// Sets all cells to zeros.
+    /// Sets all cells to zeros. Whoever adds parity calls it at the end, with cells used or not, so that a block
+    /// doesn't depend on the number of workers.
     pub fn clear(&mut self)
         ensures { cells_all self.new ≡ replicate 182 (replicate 16 0) }
     {

@@ -1,7 +1,8 @@
 //! The parity of rows and columns (ECMA-267, 18): ten bytes of inner parity (PI) end a row, sixteen of outer
 //! parity (PO) end a column. Where many are encoded or tested, vectors of 32 bytes do it for 32 at once: each row, or
 //! each column, has a lane, its byte in each vector. A word is a codeword where its values at all roots of its code are
-//! 0.
+//! 0: ten values of a row, sixteen of a column. Tests go by whole groups of 32, of which the last begins within the one
+//! before it, since testing a word twice changes nothing. Which groups come first doesn't matter.
 ghost use Rattle.std.specs.Prelude.{◌≡◌, ℕ, ◌+◌, ◌<◌, ◌≤◌, ◌++◌, length, take, slice_index, EachIndex, All, ◌↔◌, IsTrue};
 ghost use Rattle.coding.specs.Words.{IsCodeword, IsEncoded};
 ghost use Rattle.dvd_block.specs.Buffers.{lines_rows};
@@ -15,8 +16,8 @@ use rs_lanes::{
 use std::simd::prelude::*;
 
 /// Keeps the first 172 bytes of a row and sets the last ten so that it is a codeword. No code calls it or
-/// `column_parity`: the C library encodes a word by its code itself. Neither uses vectors, which would compute 32
-/// words.
+/// `column_parity`: the C library encodes a word by its code itself. Both are kept as calls of the crate for one word
+/// alone. Neither uses vectors, which would compute 32 words.
 pub fn row_parity(code: &Pi, row: &mut [u8; 182])
     ensures { IsEncoded 182 10 (take 172 row.old) row.new }
 {
@@ -24,11 +25,12 @@ pub fn row_parity(code: &Pi, row: &mut [u8; 182])
 }
 
 /// Sets the cell to the outer parity of column `j`: the upper 192 bytes of the column, followed by the cell,
-/// are a codeword.
+/// are a codeword. Rows 192 to 207 aren't read, and no row is written.
 pub fn column_parity(code: &Po, lines: &Lines, j: usize, cell: &mut [u8; 16])
     requires { j < 182 }
     ensures { IsCodeword 208 16 (take 192 (column (lines_rows lines.now) j) ++ cell.new) }
 {
+    // The column is gathered into a word of its own, as its bytes are one in each row.
     let mut word = [0; 208];
     read_column(lines.rows(), j, &mut word[..192]);
     code.encode(&mut word);
@@ -54,7 +56,8 @@ fn group_parity(rows: &mut [[u8; 182]])
     ensures size { length rows.new ≡ length rows.old }
     ensures encoded { EachIndex rows.new (λ i. IsEncoded 182 10 (take 172 (line rows.old i)) (line rows.new i)) }
 {
-    // A whole group is encoded where it is.
+    // A whole group is encoded where it is, from its first row, 0. The 192 rows of one worker are six whole groups;
+    // a piece of several workers may leave fewer than 32 rows.
     if rows.len() == 32 {
         inner_parity(rows, 0);
     } else {
@@ -62,7 +65,8 @@ fn group_parity(rows: &mut [[u8; 182]])
     }
 }
 
-// The same in a buffer of 32 rows. The vectors need 32 rows, and a row of zeros is a codeword already.
+// The same in a buffer, since the vectors need 32 rows: those of this group alone are copied back. Rows before them
+// can't fill the group, since another worker may have them.
 fn few_rows_parity(rows: &mut [[u8; 182]])
     requires { length rows.old ≤ 32 }
     ensures size { length rows.new ≡ length rows.old }
@@ -100,7 +104,8 @@ pub fn columns_parity(lines: &Lines, start: usize, cells: &mut [[u8; 16]])
     }
 }
 
-// The same of at most 32 cells.
+// The same of at most 32 cells. Unlike rows, columns are only read, and each worker may read all: so the columns
+// before fill a group that isn't whole.
 fn group_cells(lines: &Lines, start: usize, cells: &mut [[u8; 16]])
     requires few { length cells.old ≤ 32 }
     requires columns { start + length cells.old ≤ 182 }
@@ -147,11 +152,12 @@ pub fn is_product(rows: &[[u8; 182]]) -> bool
     requires { length rows.now ≡ 208 }
     ensures { IsTrue result ↔ IsProduct rows.now }
 {
-    // Neither follows from the other: rows that are codewords may make any columns.
+    // Neither follows from the other: rows that are codewords may make any columns. Which is tested first doesn't
+    // matter.
     rows_are_codewords(rows) && columns_are_codewords(rows)
 }
 
-// Whether each row is a codeword. Some rows are tested twice, since 208 is no multiple of 32.
+// Whether each row is a codeword, by seven groups. Some rows are tested twice, since 208 is no multiple of 32.
 fn rows_are_codewords(rows: &[[u8; 182]]) -> bool
     requires { length rows.now ≡ 208 }
     ensures { IsTrue result ↔ All (IsCodeword 182 10) rows.now }
@@ -165,7 +171,8 @@ fn rows_are_codewords(rows: &[[u8; 182]]) -> bool
     true
 }
 
-// Whether each of the 32 rows from `top` on is a codeword.
+// Whether each of the 32 rows from `top` on is a codeword: `any_of` has a lane of 0 where all ten values of its row are
+// 0.
 fn group_rows_are_codewords(rows: &[[u8; 182]], top: usize) -> bool
     requires { top + 32 ≤ length rows.now }
     ensures { IsTrue result ↔ ((n : ℕ) → n < 32 → IsCodeword 182 10 (line rows.now (top + n))) }
@@ -173,7 +180,7 @@ fn group_rows_are_codewords(rows: &[[u8; 182]], top: usize) -> bool
     are_zeros(any_of(&row_values(rows, top)))
 }
 
-// Whether each column is a codeword. Some columns are tested twice, since 182 is no multiple of 32.
+// Whether each column is a codeword, by six groups. Some columns are tested twice, since 182 is no multiple of 32.
 fn columns_are_codewords(rows: &[[u8; 182]]) -> bool
     requires { length rows.now ≡ 208 }
     ensures { IsTrue result ↔ ((j : ℕ) → j < 182 → IsCodeword 208 16 (column rows.now j)) }
@@ -187,7 +194,7 @@ fn columns_are_codewords(rows: &[[u8; 182]]) -> bool
     true
 }
 
-// Whether each of the 32 columns from `at` on is a codeword.
+// Whether each of the 32 columns from `at` on is a codeword, as for rows: here of sixteen values.
 fn group_columns_are_codewords(rows: &[[u8; 182]], at: usize) -> bool
     requires rows { length rows.now ≡ 208 }
     requires at { at + 32 ≤ 182 }
@@ -196,7 +203,8 @@ fn group_columns_are_codewords(rows: &[[u8; 182]], at: usize) -> bool
     are_zeros(any_of(&column_values(rows, at)))
 }
 
-// Copies the upper end of a column, as many bytes as there is room for.
+// Copies the upper end of a column, as many bytes as there is room for: the caller has room for the 192 bytes before
+// the outer parity, and sets that itself.
 fn read_column(rows: &[[u8; 182]], j: usize, top: &mut [u8])
     requires column { j < 182 }
     requires size { length top.old ≤ length rows.now }
@@ -220,7 +228,7 @@ pub(crate) fn place_cells(cells: &[[u8; 16]], rows: &mut [[u8; 182]])
     }
 }
 
-// Copies byte `t` of each cell. All of the row is set.
+// Copies byte `t` of each cell: a row of outer parity has byte t of the parity of each column. All of the row is set.
 fn read_cells(cells: &[[u8; 16]], t: usize, row: &mut [u8; 182])
     requires byte { t < 16 }
     requires size { length cells.now ≡ 182 }

@@ -6,8 +6,8 @@ ghost use Rattle.std.specs.Prelude.{◌≡◌, length, vec_len, IfOk, replicate}
 use dvd_ports::NoMemory;
 use std::alloc::Global;
 
-/// 32,768 bytes, whose memory is taken once. Commands that make blocks have one for their input, and `deep` has one for
-/// the sectors that its rounds find.
+/// 32,768 bytes, sixteen times 2,048, whose memory is taken once. Commands that make blocks have one for their input,
+/// and `deep` has one for the sectors that its rounds find.
 #[derive(Drop)]
 pub struct Piece {
     bytes: Vec<u8>,
