@@ -10,8 +10,9 @@ ghost use Rattle.dvd_merge.specs.declared.place.Place.TheVariants.{Value};
 use crate::place::{CONFLICT, SEEN, UNSEEN};
 use std::simd::prelude::*;
 
-/// Each place joined with its byte, or with nothing where its mark isn't 0: the new values and the new codes of the
-/// places. They are results and nothing is written here.
+/// Each place joined with its byte, or with nothing where its mark isn't 0: the new values, and then the new codes of
+/// the places. They are results and nothing is written here: `row` has the slices. A marked place keeps its old lanes,
+/// by the last two choices.
 #[inline(always)]
 pub(crate) fn joined(values: u8x32, codes: u8x32, bytes: u8x32, marks: u8x32) -> (u8x32, u8x32)
     ensures { HasPlaces result.0 result.1 (λ k. joined_at values codes bytes marks k) }
@@ -24,13 +25,14 @@ pub(crate) fn joined(values: u8x32, codes: u8x32, bytes: u8x32, marks: u8x32) ->
     )
 }
 
-// Each place joined with its byte.
+// Each place joined with its byte, as `Place::join` does for one.
 #[inline(always)]
 fn joined_bytes(values: u8x32, codes: u8x32, bytes: u8x32) -> (u8x32, u8x32)
     ensures { HasPlaces result.0 result.1 (λ k. join (at_place values codes k) (Value (slice_index bytes k))) }
 {
-    // A place that was unseen has the byte now, so the last comparison finds it equal. A conflict stays one there, even
-    // where its old value is the byte: it then keeps its code, which is no longer that of an unseen place.
+    // The order counts: an unseen place first gets the byte and the code of a seen one. The last line then has one
+    // question for all: where value and byte are equal the code stays, and else it becomes a conflict. So a conflict
+    // stays one in both cases, whatever its old value is.
     let unseen = u8x32::splat(UNSEEN);
     let new_values = pick(codes, unseen, bytes, values);
     let seen_codes = pick(codes, unseen, u8x32::splat(SEEN), codes);
@@ -38,7 +40,8 @@ fn joined_bytes(values: u8x32, codes: u8x32, bytes: u8x32) -> (u8x32, u8x32)
     (new_values, new_codes)
 }
 
-/// The byte of each place, 0 where none is known: the value of an unseen place or of a conflict isn't given.
+/// The byte of each place, 0 where none is known, as the marked form has it: the value of an unseen place or of a
+/// conflict may be any, and isn't given.
 #[inline(always)]
 pub(crate) fn known_bytes(values: u8x32, codes: u8x32) -> u8x32
     ensures { HasLanes result (λ k. byte_of (at_place values codes k)) }

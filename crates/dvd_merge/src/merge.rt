@@ -16,7 +16,8 @@ use dvd_ports::{NoMemory, Sink, WriteFault, write_whole};
 use std::alloc::Global;
 
 /// What captures of a block know of its places, in two planes of 37,856 bytes: 208 rows of 182. Values and codes are
-/// apart, so that 32 of each fill a vector.
+/// apart, so that 32 of each fill a vector. The ghost fields take no memory: they are facts of each table, public for
+/// proofs of the crates above.
 #[derive(Drop)]
 pub struct Merge {
     /// The byte of each place. Where no one byte is known it doesn't count, and may be any.
@@ -32,7 +33,8 @@ pub struct Merge {
 impl Merge {
     ghost use Rattle.dvd_merge.specs.Merges.{table_of};
 
-    /// No place is seen. `NoMemory` may come at any time, and nothing is taken then.
+    /// No place is seen. `NoMemory` may come at any time, and nothing is taken then: values that were taken before the
+    /// codes failed are given back.
     pub fn new(alloc: Global) -> Result<Merge, NoMemory>
         ensures { IfOk result (λ merge. table_of merge ≡ unseen) }
     {
@@ -45,13 +47,14 @@ impl Merge {
     pub fn clear(&mut self)
         ensures { table_of self.new ≡ unseen }
     {
-        // The codes alone would do: the value of an unseen place doesn't count.
+        // The codes alone would do: the value of an unseen place doesn't count. The values are set too, so that nothing
+        // of an earlier block is left.
         self.values.fill([0; 182]);
         self.codes.fill([UNSEEN; 182]);
     }
 
-    /// Joins a byte into row `i` at place `j`. All else stays. One byte by itself, by the plain `join` of two places,
-    /// as tests do: programs join whole rows, by `take_row`.
+    /// Joins a byte into row `i` at place `j`. All else stays. Only tests call it, for one byte by itself, which goes
+    /// by the plain `join` of two places: programs join whole rows, by `take_row`.
     pub fn see(&mut self, i: usize, j: usize, byte: u8)
         requires row { i < 208 }
         requires place { j < 182 }
@@ -64,7 +67,8 @@ impl Merge {
     }
 
     /// Joins each place of the received block: its byte, or nothing where it is marked. The answers that a `Work` may
-    /// have don't count, and it stays.
+    /// have don't count, and it stays. The stage is asked for, since a `Work` without a block may have the bytes of an
+    /// earlier one.
     pub fn take(&mut self, work: &Work)
         requires { HasBlock (stage_of work.now) }
         ensures { table_of self.new ≡ join_tables (table_of self.old) (seen_table (rows_of work.now) (marks_of_work work.now)) }

@@ -15,7 +15,7 @@ pub enum Place {
 }
 
 /// The codes of what is known of a place, where a byte of its own holds it beside the value. They are never written
-/// out, so any three numbers would do.
+/// out, so any three numbers would do. Vectors compare them, so they are bytes and no `enum`.
 pub(crate) const UNSEEN: u8 = 0;
 
 pub(crate) const SEEN: u8 = 1;
@@ -36,7 +36,8 @@ impl Place {
     }
 
     // What both know. Neither the order of the two nor their repetition counts. `lanes` does the same for 32 places.
-    // `tactic` lets the prover unfold the definition, which has the same cases.
+    // Programs join by vectors; this one is for `Merge::see`. `tactic` lets the prover unfold the definition, which has
+    // the same cases.
     #[tactic(auto, unfolding(crate::specs::Join::join))]
     pub(crate) fn join(self, other: Place) -> Place
         ensures { result ≡ join self other }
@@ -49,7 +50,7 @@ impl Place {
         }
     }
 
-    // Its byte, 0 where none is known. Such a place is written as 0 and marked.
+    // Its byte, 0 where none is known. Such a place is written as 0 and marked, so 0 isn't read as a byte.
     pub(crate) fn byte(self) -> u8
         ensures { result ≡ byte_of self }
     {
@@ -59,7 +60,7 @@ impl Place {
         }
     }
 
-    // The code of what is known of it.
+    // The code of what is known of it: with `byte` it undoes `new`.
     pub(crate) fn code(self) -> u8
         ensures { result ≡ code_of self }
     {

@@ -24,7 +24,8 @@ pub(crate) fn fill_text(values: &[[u8; 182]], codes: &[[u8; 182]], text: &mut [u
     requires codes { length codes.now ≡ 208 }
     ensures { text.new ≡ marked_text (table_of_planes values.now codes.now) }
 {
-    // One buffer for all rows: each fills all of it.
+    // One buffer for all rows: each fills all of it. It is an array of its own, so that the length of a row is known.
+    // By recorded rows, so that the text is set from the first byte on.
     let mut record = [0; RECORD];
     for m in 0..208 {
         let i = row_of_record(m);
@@ -33,7 +34,7 @@ pub(crate) fn fill_text(values: &[[u8; 182]], codes: &[[u8; 182]], text: &mut [u
     }
 }
 
-// Writes a row in the marked form, all 205 bytes of it.
+// Writes a row in the marked form, all 205 bytes of it: those of its places, and the mark bits after them.
 fn fill_record(values: &[u8; 182], codes: &[u8; 182], row: &mut [u8; RECORD])
     ensures { row.new ≡ marked_row (row_of values.now codes.now) }
 {
@@ -53,7 +54,7 @@ fn fill_bytes(values: &[u8; 182], codes: &[u8; 182], bytes: &mut [u8])
     }
 }
 
-// The mark bits of a row.
+// The mark bits of a row. They come from the codes alone: a place has a known byte where its code is SEEN.
 fn fill_bits(codes: &[u8; 182], bits: &mut [u8])
     requires { length bits.old ≡ 23 }
     ensures { bits.new ≡ mark_bytes (map is_unknown codes.now) }
@@ -66,12 +67,13 @@ fn fill_bits(codes: &[u8; 182], bits: &mut [u8])
     bits[22] = marks_byte(u8x8::from_slice(&codes[174..])) << 2;
 }
 
-// The mark bits of eight places, the first the highest, as the marked form has them. It is inlined, so that the eight
-// codes needn't pass through memory.
+// The mark bits of eight places, the first the highest, as the marked form has them: eight make one byte of it. It is
+// inlined, so that the eight codes needn't pass through memory.
 #[inline(always)]
 fn marks_byte(codes: u8x8) -> u8
     ensures { result ≡ number_of_marks (map is_unknown codes) }
 {
-    // `to_bitmask` makes the first lane the lowest bit. A place in conflict isn't seen, and so is marked too.
+    // `to_bitmask` makes the first lane the lowest bit, so the lanes are reversed. A place in conflict doesn't have the
+    // code of a seen one, and so is marked too.
     codes.reverse().simd_ne(u8x8::splat(SEEN)).to_bitmask() as u8
 }

@@ -19,7 +19,8 @@ pub(crate) fn take_row(
 )
     ensures { row_of values.new codes.new ≡ join_rows (row_of values.old codes.old) (seen_row bytes.now (marks_of_row marks.now)) }
 {
-    // Most rows have no mark, and then none has to be spread to a byte for each place.
+    // Most rows have no mark, and then none has to be spread to a byte for each place. Zeros mark nothing, and are a
+    // constant where `join_row` is inlined.
     if marks.is_clear() {
         join_row(values, codes, bytes, &[0; SPREAD]);
     } else {
@@ -28,12 +29,12 @@ pub(crate) fn take_row(
 }
 
 // Joins each place, or nothing where the byte of its mark isn't 0. The marks are spread over 184 bytes, eight for each
-// of the 23 mark bytes: the last two are spare.
+// of the 23 mark bytes: the last two are spare, and no group of 32 reads them.
 #[inline(always)]
 fn join_row(values: &mut [u8; 182], codes: &mut [u8; 182], bytes: &[u8; 182], marks: &[u8; SPREAD])
     ensures { (k : ℕ) → k < 182 → at_place values.new codes.new k ≡ joined_at values.old codes.old bytes.now marks.now k }
 {
-    // Places 150 to 159 are joined twice by the same bytes, which changes nothing.
+    // The last two groups share places 150 to 159. These are joined twice by the same bytes, which changes nothing.
     for group in 0..6 {
         join_at(values, codes, bytes, marks, start_of(group));
     }
@@ -62,8 +63,8 @@ fn join_at(
 }
 
 /// Where a group of 32 places begins, of the six that have all places of a row. 182 is no multiple of 32. So that the
-/// last group is full too, it begins within the one before it. The clauses show that a group leaves no place out after
-/// the one before it, and that the last ends with the row.
+/// last group is full too, it begins within the one before it, at 182 less 32. The clauses show that a group leaves no
+/// place out after the one before it, and that the last ends with the row.
 #[inline(always)]
 pub(crate) fn start_of(group: usize) -> usize
     requires { group < 6 }
