@@ -24,7 +24,9 @@ pub struct Deep {
 impl Deep {
     ghost use Rattle.dvd_deep.specs.Deeps.{has_found, rows_of_deep};
 
-    /// A search that has found no block yet. `NoMemory` may come at any time, and nothing stays allocated then.
+    /// A search that has found no block yet. `NoMemory` may come at any time, and nothing stays allocated then. The
+    /// memory is taken once, before anything is read, and serves each refused block of a run. It is on the heap, since
+    /// what lasts as long as a run doesn't belong on the stack.
     pub fn new(alloc: Global) -> Result<Deep, NoMemory>
         ensures { IfOk result (λ deep. has_found deep ≡ false) }
     {
@@ -39,7 +41,8 @@ impl Deep {
     /// near them. Then it replaces columns likewise, with the failed rows as marks, or else with the marks that are
     /// left in the column. Returns the number of the first round that finishes: all columns are answered, and all rows
     /// are then codewords. Where none does, no block is found, and the rows mean nothing. What an earlier search found
-    /// is lost in each case; `work` stays.
+    /// is lost in each case; `work` stays. `deep` calls it for a block that two passes or its frames refuse, and prints
+    /// the number.
     pub fn search(&mut self, work: &Work) -> Option<u8>
         requires stage { HasBlock (stage_of work.now) }
         ensures round { result ≡ deep_round (rows_of work.now) (marks_of_work work.now) }
@@ -52,8 +55,8 @@ impl Deep {
         round
     }
 
-    /// The byte in row `i` at place `j` of the block that the last search found. `sectors` gives the Main Data; tests
-    /// look at bytes.
+    /// The byte in row `i` at place `j` of the block that the last search found. Only tests call it: `deep` asks for
+    /// the Main Data, by `sectors`.
     pub fn byte(&self, i: usize, j: usize) -> u8
         requires found { IsTrue (has_found self.now) }
         requires row { i < 208 }

@@ -1,7 +1,7 @@
 //! Rounds over the state of a search: a row step, a column step, and the test whether the round finishes. The state is
 //! the rows of a block with a mark for each place. A row or column is answered where a codeword is near it: it becomes
 //! that and loses its marks. Others stay as they are, for the next round. A round finishes where all columns are
-//! answered, and all rows are codewords after that.
+//! answered, and all rows are codewords after that. A code, with its generator, is made once for each step.
 //! In clauses `AreWide` says that each row has 182 bytes. The type has this too, but of an array in a list the checker
 //! doesn't know the length: so a step ensures it, and the next one requires it. `MarksListed` says that a row that
 //! isn't noted has no mark. `HasBlock` says that a block was received: `Work` has no rows to read before.
@@ -57,7 +57,9 @@ pub(crate) fn play_rounds(rows: &mut Rows, marks: &mut Marks) -> Option<u8>
     None
 }
 
-// Plays one round. Returns whether it finishes. The failed rows are those of this round, and known to it alone.
+// Plays one round. Returns whether it finishes. The failed rows are those of this round, and known to it alone: a row
+// that failed before may be answered now. They aren't marks of the state, since a failed row isn't marked as a whole
+// for the next row step.
 fn play_round(rows: &mut Rows, marks: &mut Marks) -> bool
     ensures state { buffered_state rows.new marks.new ≡ round (buffered_state rows.old marks.old) }
     ensures finishes { result ≡ finishes (buffered_state rows.old marks.old) }
@@ -65,6 +67,7 @@ fn play_round(rows: &mut Rows, marks: &mut Marks) -> bool
     let mut failed = [false; 208];
     answer_rows(rows, marks, &mut failed);
     let answered = answer_columns(rows, marks, &failed);
+    // With a column that isn't answered no test of the rows is needed. With all answered, columns are codewords.
     answered && are_codewords(rows)
 }
 
@@ -90,6 +93,7 @@ fn answer_row(code: &Pi, rows: &mut Rows, marks: &mut Marks, i: usize) -> bool
     ensures marks { marks_of_rows marks.new ≡ (if result then slice_set (marks_of_rows marks.old) i (replicate 182 false) else marks_of_rows marks.old) }
     ensures height { length marks.new ≡ 208 }
 {
+    // A decoder reads a list of marks. Most rows have none, and then the list is right as it is.
     let mut row_marks = [false; 182];
     if !marks[i].is_clear() {
         marks[i].unpack(&mut row_marks);
@@ -101,7 +105,8 @@ fn answer_row(code: &Pi, rows: &mut Rows, marks: &mut Marks, i: usize) -> bool
     answered
 }
 
-// Answers a word: if there is a codeword near it, the word becomes that. Returns whether there is one.
+// Answers a word: if there is a codeword near it, the word becomes that. Returns whether there is one. Rows have N =
+// 182 and R = 10 parity bytes, and columns 208 and 16. What was corrected isn't asked for: no line of `deep` counts it.
 fn answer_word<const N: usize, const R: usize>(
     code: &Code<N, R>,
     word: &mut [u8; N],
@@ -187,8 +192,8 @@ fn answer_column(
 }
 
 // Answers the word of column `j`: with the failed rows as its marks, or else with its own marks. The first try believes
-// no byte of a failed row. Where these are too many, its own marks may be fewer. A try without an answer leaves the
-// word.
+// no byte of a failed row, as two passes do. Where it finds none, as with more than 16 failed rows, the own marks may
+// be fewer: the row step left marks in failed rows alone. A try without an answer leaves the word for the next one.
 fn answer_column_word(
     code: &Po,
     word: &mut [u8; 208],
@@ -205,7 +210,7 @@ fn answer_column_word(
     answer_word(code, word, failed) || answer_word(code, word, &own_marks(marks, marked, j))
 }
 
-// Copies column `j`, whose bytes are one in each row.
+// Copies column `j`, whose bytes are one in each row, since a decoder reads them side by side.
 fn read_column(rows: &Rows, j: usize, word: &mut [u8; 208])
     requires { j < 182 }
     ensures { word.new ≡ column rows.now j }
@@ -215,7 +220,8 @@ fn read_column(rows: &Rows, j: usize, word: &mut [u8; 208])
     }
 }
 
-// The marks of column `j`. Only marked rows are read.
+// The marks of column `j`, as the list that a decoder reads. They are asked for only after the first try. Only marked
+// rows are looked at.
 fn own_marks(marks: &Marks, marked: &[bool; 208], j: usize) -> [bool; 208]
     requires place { j < 182 }
     requires marked { MarksListed (marks_of_rows marks.now) marked.now }
@@ -252,7 +258,7 @@ fn put_column(rows: &mut Rows, j: usize, word: &[u8; 208])
     }
 }
 
-// Clears the marks of the answered columns.
+// Clears the marks of the answered columns, row by row, as marks are kept by rows.
 fn take_marks(marks: &mut Marks, answered: &[bool; 182])
     ensures taken { AreMarksTaken answered.now (marks_of_rows marks.old) (marks_of_rows marks.new) }
     ensures height { length marks.new ≡ 208 }
@@ -277,12 +283,13 @@ fn take_row_marks(row: &mut RowMarks, answered: &[bool; 182])
     }
 }
 
-// Whether all rows are codewords. Columns are answered after rows, and may change a row that was a codeword.
+// Whether all rows are codewords. Columns are answered after rows, and may change a row that was a codeword. Rows alone
+// are tested, as columns are codewords where this is asked.
 fn are_codewords(rows: &Rows) -> bool
     ensures { result ≡ list_all (vanishes_at_all 10) rows.now }
 {
     for group in 0..7usize {
-        // 208 is no multiple of 32: the last 32 rows begin at row 176, and some are tested twice.
+        // 208 is no multiple of 32: the last of seven groups begins at row 176, and some rows are tested twice.
         if !group_are_codewords(rows, (32 * group).min(176)) {
             return false;
         }
@@ -290,7 +297,8 @@ fn are_codewords(rows: &Rows) -> bool
     true
 }
 
-// Whether the 32 rows from `top` on are codewords: their values at alpha^0 to alpha^9 are all 0. 32 are tested at once.
+// Whether the 32 rows from `top` on are codewords: their values at alpha^0 to alpha^9, the ten roots of PI, are all 0.
+// A vector has a lane for each of 32 rows, so that they are tested at once.
 fn group_are_codewords(rows: &[[u8; 182]], top: usize) -> bool
     requires { top + 32 ≤ length rows.now }
     ensures { IsTrue result ↔ ((n : ℕ) → n < 32 → vanishes_at_all 10 (line rows.now (top + n)) ≡ true) }

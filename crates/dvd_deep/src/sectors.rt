@@ -41,10 +41,12 @@ fn read_frames(rows: &Rows, plan: &BlockPlan, out: &mut [u8]) -> Result<(), Caus
     ensures zeros { OnErr result (out.new ≡ replicate 32768 0) }
     ensures size { length out.new ≡ 32768 }
 {
-    // A sector is read into a buffer of its own, since `read_frame_at` asks for an array and `out` is a slice.
+    // A sector is read into a buffer of its own, since `read_frame_at` asks for an array and `out` is a slice. Frames
+    // are read in their order, so that the first one with a cause is reported.
     let mut main = [0; 2048];
     for f in 0..16usize {
         if let Err(cause) = read_frame_at(rows, plan, f, &mut main) {
+            // Sectors before this one, and what an earlier block left, are blanked.
             out.fill(0);
             return Err(cause);
         }
