@@ -1,6 +1,7 @@
 //! Captured blocks are read from a source. A recorded row, or record, is a row at its place in the order of recording,
 //! with its mark bits after it in the marked form. `tactic` names lemmas for the prover. Numbers of bytes have 32 bits
-//! in answers: the longest block, a listed one with all its runs, has 113,570 bytes.
+//! in answers: the longest block, a listed one with all its runs, has 113,570 bytes. A buffer that one call needs is on
+//! the stack, since nothing is allocated once blocks are read.
 ghost use Rattle.std.specs.Prelude.{◌≡◌, ◌≢◌, ℕ, ◌*◌, ◌<◌, ◌==◌, if◌then◌else◌, Bool, List, length, take, slice_set};
 ghost use Rattle.coding.specs.Recording.{row_at};
 ghost use Rattle.dvd_capture.specs.Captured.{HasSize, block_size, captured_marks, captured_rows, marks_in, record_size};
@@ -46,6 +47,7 @@ pub fn fetch<S: Source>(src: &mut S, form: Form, work: &mut Work) -> FetchAnswer
     ensures columns { work.new.columns ≡ work.old.columns }
     ensures sectors { work.new.sectors ≡ work.old.sectors }
 {
+    // Answers of an earlier block would not be those of other rows, so the stage goes first.
     work.set_stage(Stage::Empty);
     // At stage Empty nothing is said of the buffers, so they may be written in part.
     let answer = fetch_parts(src, form, &mut work.received, &mut work.marks);
@@ -74,9 +76,8 @@ fn fetch_parts<S: Source>(
 
 // Reads a block without marks. Its rows come straight into their buffer in the order of recording, since one read can't
 // fill rows that are apart, and are put in the order of the block there. Where not all came, what the rows had before
-// is lost, and nobody may read them: the block's stage is Empty then. The listed form has its rows read here too. The
-// clause
-// `never` says that BadMarks comes from runs alone.
+// is lost, and nobody may read them: the block's stage is Empty then. Marks of an earlier block are cleared. The listed
+// form has its rows read here too. The clause `never` says that BadMarks comes from runs alone.
 pub(crate) fn fetch_plain<S: Source>(
     src: &mut S,
     received: &mut Received,
@@ -97,6 +98,7 @@ pub(crate) fn fetch_plain<S: Source>(
 fn fetch_marked<S: Source>(src: &mut S, received: &mut Received, marks: &mut Marks) -> FetchAnswer
     ensures { Fetches Marked (S.seen src.old) (S.seen src.new) (received_rows received.new) (marks_rows marks.new) result }
 {
+    // A recorded row has 182 bytes, and 23 of mark bits.
     let mut buffer = [0; 208 * 205];
     let answer = fill(src, Form::Marked, &mut buffer);
     if answer == FetchAnswer::Full {
@@ -105,7 +107,8 @@ fn fetch_marked<S: Source>(src: &mut S, received: &mut Received, marks: &mut Mar
     answer
 }
 
-// Fills a buffer with the bytes of a block. Where all came, the block is the rows and marks that are captured in them.
+// Fills a buffer with the bytes of a block, in a form that gives each block as many: `HasSize` leaves out the listed
+// form. Where all came, the block is the rows and marks that are captured in them.
 #[tactic(auto, using(crate::proofs::FetchedCounts::cut_counts))]
 fn fill<S: Source>(src: &mut S, form: Form, buffer: &mut [u8]) -> FetchAnswer
     requires form { HasSize form }
@@ -123,8 +126,9 @@ fn fill<S: Source>(src: &mut S, form: Form, buffer: &mut [u8]) -> FetchAnswer
     }
 }
 
-/// What is answered where a source ended after so many bytes of a block, or of a part of one: 42,640 are a block of the
-/// longest form here. It is public for dvd_assemble, which reads recording frames.
+/// What is answered where a source ended after so many bytes of a block, or of a part of one. They are fewer than the
+/// 42,640 of a whole marked block, and so have room in 32 bits. Nothing at all is an answer of its own, since an input
+/// may end between two blocks. It is public for dvd_assemble, which reads recording frames.
 pub fn cut_off(bytes: usize) -> FetchAnswer
     requires { bytes < 42640 }
     ensures { result ≡ (if bytes == 0 then End else Short bytes) }
@@ -139,7 +143,8 @@ pub fn cut_off(bytes: usize) -> FetchAnswer
 }
 
 // Sets all rows and their marks to those in these bytes, in which each recorded row has its marks after it: so no two
-// rows are side by side, and they are put one by one. The contracts are of any form.
+// rows are side by side, and they are put one by one. Only the marked form comes here. It is a parameter, since the
+// contracts below are of any form: a definition of them has the form too.
 fn put_records(received: &mut Received, marks: &mut Marks, form: Form, bytes: &[u8])
     requires { length bytes.now ≡ record_size form * 208 }
     ensures { ArePut form bytes.now (received_rows received.new) (marks_rows marks.new) 208 }
@@ -151,7 +156,8 @@ fn put_records(received: &mut Received, marks: &mut Marks, form: Form, bytes: &[
     }
 }
 
-// Sets the row that is recorded row `m`, and its marks. All other rows and marks stay.
+// Sets the row that is recorded row `m`, and its marks. All other rows and marks stay. The first 182 bytes are the row
+// in each form; where marks are, `set_record` knows.
 fn put_record(received: &mut Received, marks: &mut Marks, m: usize, form: Form, bytes: &[u8])
     requires row { m < 208 }
     requires size { length bytes.now ≡ record_size form }

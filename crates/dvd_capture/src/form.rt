@@ -15,7 +15,7 @@ pub enum Form {
 
 impl Form {
     /// The bytes of a captured block, in a form that gives each block as many. The listed form doesn't: its length
-    /// depends on the runs.
+    /// depends on the runs. It is public for callers that count bytes or have a buffer for a block.
     pub fn size(self) -> usize
         requires { HasSize self }
         ensures { result ≡ block_size self }
@@ -23,7 +23,8 @@ impl Form {
         208 * self.record_size()
     }
 
-    /// The bytes of a recorded row. It is public for dvd_assemble, which reads thirteen of them at once.
+    /// The bytes of a recorded row: 182, and in the marked form 23 for 182 bits. It is public for dvd_assemble, which
+    /// reads thirteen of them at once.
     pub fn record_size(self) -> usize
         ensures { result ≡ record_size self }
     {

@@ -62,7 +62,8 @@ impl Header {
         ensures fields { IfOk result (λ header. header_bytes header ≡ bytes.now) }
         ensures refused { (at : ℕ) → result ≡ Err (Place at) → IsFirstWrongByte bytes.now at }
     {
-        // Byte by byte from the first on, so that the first wrong one is reported. Whatever passes is a header.
+        // Byte by byte from the first on, so that the first wrong one is reported. Whatever passes is a header, so the
+        // fields need no test: that shape and zones are known is proved of bytes 8 and 9.
         for (at, byte) in bytes.iter().enumerate() {
             if !Header::is_allowed(at, *byte) {
                 return Err(HeaderFault::Place { at: at as u8 });
@@ -78,7 +79,8 @@ impl Header {
         })
     }
 
-    // Whether a header may have this byte at a place. A byte that no field uses is 0. The bytes of numbers are free.
+    // Whether a header may have this byte at a place. A byte that no field uses is 0. The bytes of numbers are free:
+    // whether a disk may have such lengths is asked where layouts are known. There are three shapes and two zones.
     #[tactic(auto, unfolding(crate::specs::Header::may_be_there))]
     fn is_allowed(place: usize, byte: u8) -> bool
         requires { place < 32 }
@@ -94,7 +96,7 @@ impl Header {
     }
 }
 
-// The number in four bytes from a place on.
+// The number in four bytes from a place on. What comes after these isn't read.
 fn number_at(bytes: &[u8; 32], at: usize) -> u32
     requires { at ≤ 28 }
     ensures { result

@@ -24,7 +24,7 @@ use dvd_block::write_rows;
 use dvd_ports::{Failed, Sink, Source, WriteFault, read_whole, write_whole};
 
 /// Writes the unit of the received rows and marks. After a fault a prefix of it was taken. The work stays as it is; row
-/// answers and columns aren't written.
+/// answers and columns aren't written. It is for `convert`, the one command that writes this form.
 pub fn write_listed<K: Sink>(work: &Work, out: &mut K) -> Result<(), WriteFault>
     requires { HasBlock (stage_of work.now) }
     ensures written { OnOk result (AppendsUnit (K.seen out.old).bytes (K.seen out.new).bytes (rows_of work.now) (marks_of_work work.now)) }
@@ -34,7 +34,8 @@ pub fn write_listed<K: Sink>(work: &Work, out: &mut K) -> Result<(), WriteFault>
     write_unit(work.received.rows(), &work.marks, out)
 }
 
-// Writes the unit of these rows and marks: what `write_listed` does, without a stage to speak of.
+// Writes the unit of these rows and marks: what `write_listed` does, without a stage to speak of. The rows go out
+// before the runs are listed, so that no buffer has both.
 fn write_unit<K: Sink>(rows: &[[u8; 182]], marks: &Marks, out: &mut K) -> Result<(), WriteFault>
     requires { length rows.now ≡ 208 }
     ensures written { OnOk result (AppendsUnit (K.seen out.old).bytes (K.seen out.new).bytes rows.now (marks_rows marks.now)) }
@@ -75,8 +76,8 @@ pub(crate) fn fetch_listed<S: Source>(
     }
 }
 
-// Reads the number of runs and then each run, after the bytes of the rows. What `fetch_runs` has as an error is an
-// answer too.
+// Reads the number of runs and then each run, after the bytes of the rows. `fetch_runs` has a `Result` so that each
+// step may end it by `?`: its errors are answers too.
 fn fetch_marks<S: Source>(src: &mut S, marks: &mut Marks) -> FetchAnswer
     ensures fetched { (before : List ℕ) → AreRows before (mark_of (marks_rows marks.old))
         → IsFetched before (mark_of (marks_rows marks.new)) (S.seen src.old).bytes (S.seen src.new).bytes result }
@@ -97,15 +98,17 @@ fn fetch_runs<S: Source>(src: &mut S, marks: &mut Marks) -> Result<(), FetchAnsw
         → IfErr result (IsStopped before (S.seen src.old).bytes (S.seen src.new).bytes) }
     ensures cause { HasFetchCause result (S.seen src.old) (S.seen src.new) }
 {
-    // The offsets that are reported count from the first byte of the unit.
+    // The offsets that are reported count from the first byte of the unit. A place has one byte, so that the number of
+    // places is also that of the bytes before the fields.
     let number = fetch_field(src, PLACES)?;
-    // Refused before more is read, and so the fields have room for all that follow.
+    // Refused before more is read, and so the fields have room for all that follow. The offset is that of the number.
     if number > MOST_RUNS {
         return Err(FetchAnswer::BadMarks { at: PLACES as u32 });
     }
     let mut fields = Fields::new();
     let mut taken = Taken { runs: 0, end: 0 };
-    // Each round reads a byte at least. A run is taken once both of its fields are whole, so all are at the end.
+    // Each turn reads a byte at least, so the loop ends. A run has four bytes and is taken once these are whole, so all
+    // are at the end.
     while fields.len() < 4 * number {
         read_fields(src, &mut fields, 4 * number)?;
         taken = take_runs(marks, fields.as_slice(), taken)?;
@@ -123,10 +126,11 @@ fn read_fields<S: Source>(src: &mut S, fields: &mut Fields, most: usize) -> Resu
     ensures cause { HasFetchCause result (S.seen src.old) (S.seen src.new) }
 {
     // A read goes into an array first, since the list of fields lends only what it holds. Any length would do: a longer
-    // one takes more stack, and a shorter one more calls.
+    // one takes more stack, and a shorter one more calls. `read_whole` would wait for all of it.
     let mut piece = [0; 4096];
     let room = piece.len().min(most - fields.len());
     match src.read(&mut piece[..room]) {
+        // The source has ended: the bytes of the rows, the number of runs and these fields came.
         Ok(0) => Err(FetchAnswer::Short {
             bytes: (PLACES + 2 + fields.len()) as u32,
         }),

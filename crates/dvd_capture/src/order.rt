@@ -26,7 +26,8 @@ pub(crate) fn put_in_order(bytes: &mut [u8])
     set_rows(bytes, 192, &parity);
 }
 
-// Keeps the row of outer parity that is recorded after frame `f`.
+// Keeps the row of outer parity that is recorded after frame `f`, since a later frame is moved over it. In the block it
+// is row 192 + f.
 fn keep_parity(parity: &mut [u8; PARITY], f: usize, bytes: &[u8])
     requires frame { f < 16 }
     requires size { length bytes.now ≡ 37_856 }
@@ -38,7 +39,8 @@ fn keep_parity(parity: &mut [u8; PARITY], f: usize, bytes: &[u8])
 }
 
 // Moves the twelve rows of frame `f` from where they are recorded to their places. These may overlap, so that they are
-// copied by way of a frame of their own.
+// copied by way of a frame of their own; `copy_within` would do too. Frame 0 is at its place already, and is copied
+// like the others.
 fn move_frame(bytes: &mut [u8], f: usize)
     requires frame { f < 16 }
     requires size { length bytes.old ≡ 37_856 }
@@ -53,7 +55,8 @@ fn move_frame(bytes: &mut [u8], f: usize)
     set_rows(bytes, 12 * f, &frame);
 }
 
-/// Sets the rows from row `i` on, and no others.
+/// Sets the rows from row `i` on, as many as are given, and no others. One row, a frame and all outer parity are set by
+/// it, so that its clauses serve each of them.
 pub(crate) fn set_rows(bytes: &mut [u8], i: usize, rows: &[u8])
     requires { 182 * i + length rows.now ≤ length bytes.old }
     ensures size { length bytes.new ≡ length bytes.old }

@@ -1,10 +1,11 @@
 //! The buffers of a captured block. Whoever decodes several rows or columns at once lends them one by one. They are on
 //! the heap and apart from each other, so that one can be read while another is written. Their lengths never change, by
-//! the ghost field `size` of each, which takes no memory and is public for proofs of the crates above. In contracts
-//! `received_rows`, `marks_rows`, `answer_rows`, `column_answers` and `sector_bytes` are what a buffer holds, as lists.
-//! A clause `writes_back` says of a loan for writing that the buffer is afterwards what was written through it. The
-//! clause `width` says what a type does: the prover doesn't know the length of an array in a list. Memory fails in one
-//! way, so a failure has nothing but its name.
+//! the ghost field `size` of each, which takes no memory and is public for proofs of the crates above. What decoders
+//! need of a buffer is public; rows and marks are written in this crate alone. In contracts `received_rows`,
+//! `marks_rows`, `answer_rows`, `column_answers` and `sector_bytes` are what a buffer holds, as lists. A clause
+//! `writes_back` says of a loan for writing that the buffer is afterwards what was written through it. The clause
+//! `width` says what a type does: the prover doesn't know the length of an array in a list. Memory fails in one way, so
+//! a failure has nothing but its name.
 ghost use Rattle.std.specs.Prelude.{◌≡◌, ℕ, ◌↔◌, ◌+◌, ◌*◌, ◌<◌, ◌≤◌, false, length, take, vec_len, IfOk, IsTrue, replicate, slice_index_or, slice_set};
 ghost use Rattle.std.specs.List.{flat_map};
 ghost use Rattle.std.specs.declared.option.Option.TheVariants.{None};
@@ -22,8 +23,8 @@ use rs_decode::Fix;
 use rs_lanes::Row;
 use std::alloc::Global;
 
-/// The received rows: 208 of 182 bytes, 37,856 bytes in sum. They lie one after the other, so that a block comes
-/// straight into them.
+/// The received rows: 208 of 182 bytes, 37,856 bytes in sum. They are one list of bytes and no list of rows, so that
+/// one read brings a plain block straight into them: what a list of arrays is after that isn't known.
 #[derive(Drop)]
 pub struct Received {
     bytes: Vec<u8>,
@@ -31,7 +32,8 @@ pub struct Received {
 }
 
 /// A mark for each received place, a bit each: 208 rows of 23 bytes, 4,784 bytes in sum.
-/// They are bits, as in the marked form, and are spread out where they are used.
+/// They are bits, as in the marked form, and are spread out where they are used: most rows have none, which 23 bytes
+/// show at once.
 #[derive(Drop)]
 pub struct Marks {
     rows: Vec<RowMarks>,
@@ -39,7 +41,7 @@ pub struct Marks {
 }
 
 /// What was found for one row: the codeword near it and what that corrects, or, for a failed row, no `fix`.
-/// The bytes of a failed row mean nothing.
+/// The bytes of a failed row mean nothing: they are there, as the columns are read over all 208 rows.
 #[derive(Clone, Copy, Debug, PartialEq, Eq, Drop)]
 pub struct AnswerRow {
     pub bytes: [u8; 182],
@@ -53,7 +55,8 @@ pub struct Answers {
     pub ghost size: { vec_len rows ≡ 208 },
 }
 
-/// What was found for one column of row answers: its codeword, if it was answered.
+/// What was found for one column of row answers: its codeword, if it was answered. Its 208 bytes are side by side, so
+/// that a column is one thing that a worker writes; in rows they would be apart.
 #[derive(Clone, Copy, Debug, PartialEq, Eq, Drop)]
 pub struct ColumnAnswer {
     pub bytes: [u8; 208],
@@ -87,7 +90,7 @@ impl Received {
         Ok(Received { bytes })
     }
 
-    /// The received rows.
+    /// The received rows. The bytes are 208 times 182, so that no bytes are left after the rows.
     pub fn rows(&self) -> &[[u8; 182]]
         ensures rows { result.now ≡ received_rows self.now }
         ensures size { length result.now ≡ 208 }
@@ -95,7 +98,8 @@ impl Received {
         self.bytes.as_chunks::<182>().0
     }
 
-    /// The bytes of the rows, lent for writing. Their number stays.
+    /// The bytes of the rows, lent for writing. Their number stays. A source writes them in the order of recording, and
+    /// `put_in_order` has to follow.
     pub(crate) fn bytes_mut(&mut self) -> &mut [u8]
         ensures* writes_back { sem 𝓛 (LendsBytes self.entry result) }
         ensures bytes { result.now ≡ received_bytes self.old }
@@ -112,7 +116,7 @@ impl Received {
         &self.rows()[i]
     }
 
-    /// Sets all rows.
+    /// Sets all rows, given in the order of the block.
     pub(crate) fn set_rows(&mut self, rows: &[[u8; 182]])
         requires { length rows.now ≡ 208 }
         ensures { received_rows self.new ≡ rows.now }
@@ -128,7 +132,7 @@ impl Received {
         put_in_order(&mut self.bytes);
     }
 
-    /// Sets row `i`, and nothing else.
+    /// Sets row `i`, and nothing else. It is passed as a slice, as it is the first part of a recorded row.
     pub(crate) fn set_row(&mut self, i: usize, row: &[u8])
         requires row { i < 208 }
         requires size { length row.now ≡ 182 }
@@ -168,7 +172,8 @@ impl Marks {
         &self.rows[i]
     }
 
-    /// Writes the marks of row `i`.
+    /// Writes the marks of row `i`, as the list that decoders read. They ask for `is_clear` first, as most rows have
+    /// none.
     pub fn row(&self, i: usize, out: &mut [bool; 182])
         requires { i < 208 }
         ensures { out.new ≡ marks_line (marks_rows self.now) i }
@@ -184,7 +189,7 @@ impl Marks {
         self.rows[i].is_clear()
     }
 
-    /// How many places of row `i` are marked.
+    /// How many places of row `i` are marked. A decoder asks it of rows that may have more than 10, which are lost.
     pub fn count(&self, i: usize) -> u32
         requires { i < 208 }
         ensures { result ≡ marked (marks_line (marks_rows self.now) i) }
@@ -192,7 +197,7 @@ impl Marks {
         self.rows[i].count()
     }
 
-    /// The first place of row `i` from `from` on whose mark is this, or 182.
+    /// The first place of row `i` from `from` on whose mark is this, or 182. Runs of the listed form are found by it.
     pub(crate) fn next(&self, i: usize, from: usize, mark: bool) -> usize
         requires row { i < 208 }
         requires from { from ≤ 182 }
@@ -229,7 +234,7 @@ impl Marks {
         self.rows[i].copy_from_record(form, bytes);
     }
 
-    /// Takes all marks away.
+    /// Takes all marks away, where a block without marks is received or its runs come after its rows.
     pub(crate) fn clear(&mut self)
         ensures { marks_rows self.new ≡ replicate 208 (replicate 182 false) }
     {
@@ -238,7 +243,7 @@ impl Marks {
 }
 
 impl AnswerRow {
-    /// Sets both fields.
+    /// Sets both fields. For a failed row the bytes may be any; the received ones are passed.
     pub fn set(&mut self, bytes: &[u8; 182], fix: Option<Fix>)
         ensures bytes { self.new.bytes ≡ bytes.now }
         ensures fix { self.new.fix ≡ fix }
@@ -248,7 +253,8 @@ impl AnswerRow {
     }
 }
 
-// So rs_lanes tests the columns of answers where they are, without a copy of the rows.
+// So rs_lanes tests the columns of answers where they are, without a copy of the rows. The ghost `word` is what its
+// clauses call the row.
 impl Row for AnswerRow {
     ghost word = { λ answer. answer.bytes };
 
@@ -274,7 +280,7 @@ impl Answers {
         Ok(Answers { rows })
     }
 
-    /// The row answers.
+    /// The row answers, of which columns are made. Their bytes mean something only where the stage says so.
     pub fn rows(&self) -> &[AnswerRow]
         ensures rows { result.now ≡ answer_rows self.now }
         ensures size { length result.now ≡ 208 }
@@ -293,7 +299,7 @@ impl Answers {
 }
 
 impl ColumnAnswer {
-    /// Sets both fields.
+    /// Sets both fields. Only tests call it: decoders set each field in its place.
     pub fn set(&mut self, bytes: &[u8; 208], answered: bool)
         ensures bytes { self.new.bytes ≡ bytes.now }
         ensures answered { self.new.answered ≡ answered }
@@ -320,7 +326,7 @@ impl Columns {
         Ok(Columns { all })
     }
 
-    /// The columns.
+    /// The columns. Their bytes are the block only where the stage says so.
     pub fn all(&self) -> &[ColumnAnswer]
         ensures columns { result.now ≡ column_answers self.now }
         ensures size { length result.now ≡ 182 }
@@ -359,7 +365,7 @@ impl Sectors {
         self.all[f] = *main;
     }
 
-    /// Sector `f`, lent for writing. The others stay.
+    /// Sector `f`, lent for writing, so that a decoder descrambles straight into it. The others stay.
     pub fn sector_mut(&mut self, f: usize) -> &mut [u8; 2048]
         requires { f < 16 }
         ensures* writes_back { sem 𝓛 (LendsSector self.entry f result) }
@@ -368,7 +374,7 @@ impl Sectors {
         &mut self.all[f]
     }
 
-    /// Sector `f`.
+    /// Sector `f`, for `Work::sector`.
     pub(crate) fn sector(&self, f: usize) -> &[u8; 2048]
         requires { f < 16 }
         ensures { result.now ≡ line (sector_bytes self.now) f }

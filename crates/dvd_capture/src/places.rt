@@ -9,7 +9,7 @@ ghost use Rattle.dvd_capture.specs.Parts.{marks_rows};
 use crate::parts::Marks;
 use dvd_block::row_of_record;
 
-/// The places of a block.
+/// The places of a block: 208 times 182. A place has one byte, so it is the number of bytes of the rows too.
 pub(crate) const PLACES: usize = 37_856;
 
 // Marks a place, and no other.
@@ -21,7 +21,8 @@ fn mark_place(marks: &mut Marks, place: usize)
     marks.set(row_of_record(place / 182), place % 182, true);
 }
 
-/// Marks the places from `start` to before `end`, and no others.
+/// Marks the places from `start` to before `end`, and no others. They go one by one: in the order of recording a run
+/// may go on in a row that is elsewhere in the block.
 pub(crate) fn mark_places(marks: &mut Marks, start: usize, end: usize)
     requires order { start ≤ end }
     requires within { end ≤ 37_856 }
@@ -33,8 +34,9 @@ pub(crate) fn mark_places(marks: &mut Marks, start: usize, end: usize)
     }
 }
 
-/// The first place from `from` on whose mark is this, or the number of places. Only the row of `from` is looked at from
-/// within, and all after it from their first place.
+/// The first place from `from` on whose mark is this, or the number of places, which is no place. Only the row of
+/// `from` is looked at from within, and all after it from their first place. Where `from` is the number of places, none
+/// is.
 pub(crate) fn next_place(marks: &Marks, from: usize, marked: bool) -> usize
     requires { from ≤ 37_856 }
     ensures { IsFound (mark_of (marks_rows marks.now)) marked from 37_856 result }
@@ -52,7 +54,8 @@ pub(crate) fn next_place(marks: &Marks, from: usize, marked: bool) -> usize
 }
 
 /// How many runs the marked places are: one starts at each marked place that has no marked place just before it. They
-/// are counted before they are written, since their number comes first.
+/// are counted before they are written, since their number comes first. It goes from the end of one run to the start of
+/// the next, as `list_runs` does.
 pub(crate) fn count_runs(marks: &Marks) -> usize
     ensures { result ≡ starts_below (mark_of (marks_rows marks.now)) 37_856 }
 {

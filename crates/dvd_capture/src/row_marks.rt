@@ -27,7 +27,7 @@ pub struct RowMarks {
 impl RowMarks {
     ghost use Rattle.dvd_capture.specs.Parts.{marks_of_row};
 
-    /// No marks.
+    /// No marks; spare bits are 0 too.
     pub fn none() -> RowMarks
         ensures { marks_of_row result ≡ replicate 182 false }
     {
@@ -48,7 +48,7 @@ impl RowMarks {
         count_marks(&self.bits)
     }
 
-    /// The mark of place `j`.
+    /// The mark of place `j`. It is public for dvd_deep, which reads the marks of a column.
     pub fn get(&self, j: usize) -> bool
         requires { j < 182 }
         ensures { result ≡ slice_index_or (marks_of_row self.now) j false }
@@ -64,7 +64,7 @@ impl RowMarks {
         next_mark(&self.bits, from, mark)
     }
 
-    /// Sets the mark of place `j`, and no other.
+    /// Sets the mark of place `j`, and no other. It is public for dvd_deep, which clears the marks of answered columns.
     pub fn set(&mut self, j: usize, mark: bool)
         requires { j < 182 }
         ensures { marks_of_row self.new ≡ slice_set (marks_of_row self.old) j mark }
@@ -72,7 +72,8 @@ impl RowMarks {
         set_mark(&mut self.bits, j, mark);
     }
 
-    /// Writes the mark of each place, by way of `spread`: eight bits at once, and none looked up by itself.
+    /// Writes the mark of each place, as the list that decoders read. It goes by way of `spread`: eight bits at once,
+    /// and none looked up by itself.
     pub fn unpack(&self, out: &mut [bool; 182])
         ensures { out.new ≡ marks_of_row self.now }
     {
@@ -91,7 +92,8 @@ impl RowMarks {
     }
 
     /// Sets all marks to those in a recorded row by itself, which has mark bits in the marked form alone: the most
-    /// significant bit of a byte is that of its first place.
+    /// significant bit of a byte is that of its first place. It is public for dvd_assemble, whose rows aren't in
+    /// `Marks`.
     pub fn copy_from_record(&mut self, form: Form, bytes: &[u8])
         requires { length bytes.now ≡ record_size form }
         ensures { marks_of_row self.new ≡ marks_in form bytes.now }
@@ -107,7 +109,7 @@ impl RowMarks {
 fn has_no_mark(row: &[u8; 23]) -> bool
     ensures { IsTrue result ↔ (marks_of row.now ≡ replicate 182 false) }
 {
-    // The last byte has six places, in its upper bits.
+    // The last byte has six places, in its upper bits: below 4 only spare bits are set.
     row[..22] == [0; 22] && row[22] < 4
 }
 
@@ -120,7 +122,7 @@ fn count_marks(bits: &[u8]) -> u32
     for k in 0..22usize {
         count += bits[k].count_ones();
     }
-    // The last byte has six places, in its upper bits.
+    // The last byte has six places, in its upper bits: a quarter of it is these alone.
     count + (bits[22] / 4).count_ones()
 }
 
@@ -138,7 +140,7 @@ fn next_mark(bits: &[u8; 23], from: usize, mark: bool) -> usize
     requires { from ≤ 182 }
     ensures { IsFound (mark_at bits.now) mark from 182 result }
 {
-    // The byte in which no place has the mark.
+    // The byte in which no place has the mark: all bits are the other one.
     let passed = if mark { 0 } else { 255 };
     let mut j = from;
     while j < 182 {
@@ -153,7 +155,8 @@ fn next_mark(bits: &[u8; 23], from: usize, mark: bool) -> usize
     182
 }
 
-// A byte for each mark bit, 0 where the place isn't marked.
+// A byte for each mark bit, 0 where the place isn't marked. All 23 bytes alike: so there are 184, with two for the
+// spare bits.
 fn spread_bits(bits: &[u8; 23]) -> [u8; SPREAD]
     ensures { (j : ℕ) → j < 182 → is_set (slice_index result j) ≡ mark_at bits.now j }
 {
@@ -164,9 +167,10 @@ fn spread_bits(bits: &[u8; 23]) -> [u8; SPREAD]
     marks
 }
 
-// Sets eight bytes from place `at` on: the first is 0 where the highest bit is, and so on. All eight are set at once,
-// without a test of each bit. The contract keeps only what comes before, since bytes are set from the first on. It is
-// inlined, as all with vectors is; no proof rests on that.
+// Sets eight bytes from place `at` on: the first is 0 where the highest bit is, and so on. A byte that isn't 0 is the
+// bit itself, so callers compare with 0. All eight are set at once, without a test of each bit. The contract keeps only
+// what comes before, since bytes are set from the first on. It is inlined, as all with vectors is; no proof rests on
+// that.
 #[inline(always)]
 fn put_bits(bits: u8, marks: &mut [u8], at: usize)
     requires { at + 8 ≤ length marks.old }
@@ -178,7 +182,7 @@ fn put_bits(bits: u8, marks: &mut [u8], at: usize)
     lanes.copy_to_slice(&mut marks[at..]);
 }
 
-// Sets the mark of place `j`. All other bits stay, the spare ones too.
+// Sets the mark of place `j`. All other bits stay, the spare ones too. The first place of a byte has its highest bit.
 fn set_mark(bits: &mut [u8; 23], j: usize, mark: bool)
     requires { j < 182 }
     ensures { marks_of bits.new ≡ slice_set (marks_of bits.old) j mark }
@@ -186,7 +190,7 @@ fn set_mark(bits: &mut [u8; 23], j: usize, mark: bool)
     bits[j / 8] = with_bit(bits[j / 8], 7 - j % 8, mark);
 }
 
-// A byte with this bit.
+// A byte with this bit set, or else cleared. `place` counts from the lowest bit, which is 0.
 fn with_bit(byte: u8, place: usize, set: bool) -> u8
     requires { place < 8 }
     ensures same { (bit_at result place == 1) ≡ set }

@@ -21,7 +21,7 @@ pub(crate) const MOST_RUNS: usize = 18_928;
 
 /// The fields after the rows of a block: the number of its runs, and two for each. Each field is two bytes: 2 and 4 ×
 /// 18,928. Writers put all of them in one; readers take the number by itself, and have the fields of the runs here.
-/// They are on the stack, since nothing is allocated once blocks are read.
+/// They are on the stack, since nothing is allocated once blocks are read. The list has a capacity and no heap.
 pub(crate) type Fields = ArrayVec<u8, 75_714>;
 
 /// How many runs were taken, and where the last of them ends. Before the first run both are 0: so an end of 0 says
@@ -33,7 +33,8 @@ pub(crate) struct Taken {
 }
 
 /// Puts the number of runs and then each run. A run goes from the next marked place to the next that isn't, so that no
-/// two touch, as the readers of the form demand.
+/// two touch, as the readers of the form demand. The runs are found a second time after they were counted, since the
+/// number comes first and a list only grows at its end.
 pub(crate) fn list_runs(marks: &Marks, fields: &mut Fields)
     requires { fields.old.items ≡ [] }
     ensures { (before : List ℕ) → length before ≡ 37_856 → AreFields before (mark_of (marks_rows marks.now)) fields.new.items }
@@ -80,6 +81,7 @@ pub(crate) fn take_runs(
     ensures within { IfOk result (λ now. 4 * now.runs ≤ length fields.now) }
     ensures bad { IfErr result IsBadMarks }
 {
+    // Runs taken before aren't looked at again: their marks are set.
     let mut taken = taken;
     for i in taken.runs..fields.len() / 4 {
         let start = field(fields, 4 * i);
@@ -92,14 +94,15 @@ pub(crate) fn take_runs(
             end: start + length,
         };
     }
-    // So a wrong start is reported before its length has come.
+    // Two or three bytes after the last whole run have the next start whole. So a wrong one is reported before its
+    // length has come.
     if fields.len() % 4 >= 2 {
         check_start(taken.runs, field(fields, 4 * taken.runs), taken.end)?;
     }
     Ok(taken)
 }
 
-// The field at an offset.
+// The field at an offset, which counts from the first run's start.
 fn field(fields: &[u8], offset: usize) -> usize
     requires { offset + 2 ≤ length fields.now }
     ensures value { result ≡ field_at fields.now offset }
@@ -110,7 +113,8 @@ fn field(fields: &[u8], offset: usize) -> usize
 
 // Run `i` starts at a place of the block, above the end of the one before. A run that goes on where the one before ends
 // would be a second spelling of the same marks. The first run has none before it, and may start at place 0. `end` is
-// then any number. `i` is below the most runs, so that the offset that is reported fits 32 bits.
+// then any number. `i` is below the most runs, so that the offset that is reported fits 32 bits. The offset counts from
+// the unit's first byte: the rows, two bytes for the number of runs, and four for each run before.
 fn check_start(i: usize, start: usize, end: usize) -> Result<(), FetchAnswer>
     requires { i < 18_928 }
     ensures valid { OnOk result ((start < 37_856) × (0 < i → end < start)) }

@@ -76,8 +76,8 @@ impl Work {
     }
 
     /// Sets the stage, and all else stays. Where it says that something was found, that is in the buffers: a caller
-    /// proves it, and nothing is tested here. Nothing is asked for Empty and Fetched. It is public for dvd_read and
-    /// dvd_par, which decode.
+    /// proves it, and nothing is tested here. Nothing is asked for Empty and Fetched, of which no ghost field speaks.
+    /// It is public for dvd_read and dvd_par, which decode.
     pub fn set_stage(&mut self, stage: Stage)
         requires answered { HasAnswers stage → AreAnswers (rows_of self.old) (marks_of_work self.old) (answers_of_work self.old) }
         requires refused { stage ≡ Refused → HasNoTwoPass (rows_of self.old) (marks_of_work self.old) }
@@ -102,7 +102,8 @@ impl Work {
         ensures columns { self.new.columns ≡ self.old.columns }
         ensures sectors { self.new.sectors ≡ self.old.sectors }
     {
-        // At stage Empty the rows and marks may be set one after the other.
+        // At stage Empty the rows and marks may be set one after the other: at Refused or Fixed a ghost field would be
+        // wrong between the two.
         self.set_stage(Stage::Empty);
         self.received.set_rows(block.lines.rows());
         self.marks.clear();
@@ -123,7 +124,8 @@ impl Work {
         ensures columns { self.new.columns ≡ self.old.columns }
         ensures sectors { self.new.sectors ≡ self.old.sectors }
     {
-        // Answers to the row as it was no longer count.
+        // Answers to the row as it was no longer count. First, so that no ghost field speaks of the row while it
+        // changes.
         self.stage = Stage::Fetched;
         self.received.set(i, j, byte);
         self.marks.set(i, j, mark);
@@ -139,7 +141,7 @@ impl Work {
         self.received.row(i)[j]
     }
 
-    /// Whether it is marked.
+    /// Whether the place is marked, which `damage` is to keep where only the byte changes.
     pub fn marked(&self, i: usize, j: usize) -> bool
         requires stage { HasBlock (stage_of self.now) }
         requires row { i < 208 }
@@ -149,7 +151,8 @@ impl Work {
         self.marks.get(i, j)
     }
 
-    /// The received bytes of row `i`.
+    /// The received bytes of row `i`. It and `row_marks` are for those that read a whole block without decoding it in
+    /// place, as dvd_merge and dvd_deep do.
     pub fn row(&self, i: usize) -> &[u8; 182]
         requires stage { HasBlock (stage_of self.now) }
         requires row { i < 208 }
@@ -158,7 +161,7 @@ impl Work {
         self.received.row(i)
     }
 
-    /// Their marks.
+    /// Their marks, lent as bits.
     pub fn row_marks(&self, i: usize) -> &RowMarks
         requires stage { HasBlock (stage_of self.now) }
         requires row { i < 208 }
@@ -167,7 +170,7 @@ impl Work {
         self.marks.row_marks(i)
     }
 
-    /// What the answer to row `i` corrects: none exactly where no codeword is near the row.
+    /// What the answer to row `i` corrects: none exactly where no codeword is near the row. A survey counts these.
     pub fn answer(&self, i: usize) -> Option<Fix>
         requires stage { HasAnswers (stage_of self.now) }
         requires row { i < 208 }
@@ -202,7 +205,8 @@ impl Work {
         self.columns.all()[j].bytes[i]
     }
 
-    /// The 2,048 bytes of sector `f`. They may be asked for at any stage: no stage says what the sectors are.
+    /// The 2,048 bytes of sector `f`. They may be asked for at any stage: no stage says what the sectors are, since the
+    /// call that writes them ensures it.
     pub fn sector(&self, f: usize) -> &[u8]
         requires { f < 16 }
         ensures value { result.now ≡ line (sectors_of self.now) f }
@@ -211,7 +215,8 @@ impl Work {
         self.sectors.sector(f)
     }
 
-    /// The bytes of the first `count` sectors, one after the other.
+    /// The bytes of the first `count` sectors, one after the other. Commands write them: the last block of an image may
+    /// have fewer than sixteen.
     pub fn first_sectors(&self, count: usize) -> &[u8]
         requires { count ≤ 16 }
         ensures { result.now ≡ flat_map (λ sector. sector) (take count (sectors_of self.now)) }
