@@ -65,7 +65,7 @@ fn group_parity(rows: &mut [[u8; 182]])
     }
 }
 
-// The same in a buffer, since the vectors need 32 rows: those of this group alone are copied back. Rows before them
+// The same in a buffer, since the vectors need 32 rows: those of this group alone are copied back. Rows beside them
 // can't fill the group, since another worker may have them.
 fn few_rows_parity(rows: &mut [[u8; 182]])
     requires { length rows.old ≤ 32 }
@@ -104,8 +104,8 @@ pub fn columns_parity(lines: &Lines, start: usize, cells: &mut [[u8; 16]])
     }
 }
 
-// The same of at most 32 cells. Unlike rows, columns are only read, and each worker may read all: so the columns
-// before fill a group that isn't whole.
+// The same of at most 32 cells. Unlike rows, columns are only read, and each worker may read all: so a group that isn't
+// whole is filled with columns beside it, whose parity isn't written.
 fn group_cells(lines: &Lines, start: usize, cells: &mut [[u8; 16]])
     requires few { length cells.old ≤ 32 }
     requires columns { start + length cells.old ≤ 182 }
