@@ -16,8 +16,8 @@ use rs_lanes::{
 use std::simd::prelude::*;
 
 /// Keeps the first 172 bytes of a row and sets the last ten so that it is a codeword. No code calls it or
-/// `column_parity`: the C library encodes a word by its code itself. Both are kept as calls of the crate for one word
-/// alone. Neither uses vectors, which would compute 32 words.
+/// `column_parity`: the C library encodes a word by its code itself. Each is for one word alone, and uses no vectors,
+/// which would compute 32 words.
 pub fn row_parity(code: &Pi, row: &mut [u8; 182])
     ensures { IsEncoded 182 10 (take 172 row.old) row.new }
 {
