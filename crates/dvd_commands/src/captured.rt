@@ -3,7 +3,8 @@
 //! stage says what of these there is: `HasBlock`, a block was received; `HasAnswers`, its rows were decoded too.
 //! `HasNumbers` says that the numbers of an entry's sixteen sectors have 24 bits, as those of every plan have.
 //! `AreDone` says which steps, writes and lines, are done for a unit; where a call fails, only a first part of them is.
-//! Clauses `causes` say by the counts of a stream that the call that failed, where one did, was its last.
+//! Clauses `causes` say by the counts of a stream that the call that failed, where one did, was its last. Where a
+//! stream isn't handed to a function, the clause is of any (`source`, `report`), which stays as it is.
 ghost use Rattle.std.specs.Prelude.{IfErr, OnOk};
 ghost use Rattle.dvd_capture.specs.Captured.{Captures};
 ghost use Rattle.dvd_capture.specs.Rule.{HasAnswers, HasBlock};
@@ -33,8 +34,9 @@ pub(crate) struct Planned<'a> {
 }
 
 /// Reads captured block `k`, or answers how the loop ends within it.
-/// `fetch` knows no loop, so its answers become ends here, which name the block. Where it isn't whole, the work has no
-/// block. Marks break a rule in the listed form alone.
+/// `fetch` knows no loop, so its answers become ends here, which name the block. `End` is an input that ended between
+/// two blocks, and so `Short` with 0 bytes. Where the block isn't whole, the work has none. Marks break a rule in the
+/// listed form alone, and `at` is the byte of the block where the field that breaks it begins.
 pub(crate) fn fetch_block<S: Source>(
     src: &mut S,
     k: u32,
@@ -57,8 +59,10 @@ pub(crate) fn fetch_block<S: Source>(
 
 /// Reports the line of a block that is refused for this cause, and writes its image sectors: those that are salvaged,
 /// and zeros for the others.
-/// It salvages first, since the line says how many frames are saved, and the line goes out before any sector. The
-/// sectors of the work are overwritten; its received rows and marks stay. `recover` and `deep` share it.
+/// It salvages first, since the line says how many frames are saved. The line goes out before any sector, so that
+/// whoever follows the output knows of the zeros before they come. The sectors of the work are overwritten; its
+/// received rows and marks stay. `recover` and `deep` share it: after the rounds of `deep` too, what is salvaged comes
+/// from the two passes, whose answers are still in the work.
 pub(crate) fn refuse_block<K: Sink, E: Sink>(
     block: &Planned<'_>,
     cause: &Cause,
@@ -77,7 +81,8 @@ pub(crate) fn refuse_block<K: Sink, E: Sink>(
 }
 
 /// Writes the image sectors of a block, which is then of this kind. The image's last block may have fewer than sixteen:
-/// what fills that block up isn't written.
+/// what fills that block up isn't written. They are the first sectors of a block, in the order of the image. The kind
+/// comes from the caller, since a good block and a refused one are written alike.
 pub(crate) fn write_image<K: Sink>(
     block: &Planned<'_>,
     work: &Work,
@@ -93,7 +98,7 @@ pub(crate) fn write_image<K: Sink>(
 
 /// Writes the sectors in these bytes, each by a `write_whole` of its own. After a fault a prefix of the bytes was
 /// written. Callers have whole sectors; what is left after these would go out as a shorter piece. `IsWritten` is of all
-/// bytes together, so it holds for any number of pieces.
+/// bytes together, so it holds for pieces of any size, and for one alone: a sector for each is a choice.
 pub(crate) fn write_each<K: Sink>(sectors: &[u8], out: &mut K) -> Result<(), WriteFault>
     ensures { IsWritten sectors.now (K.seen out.old) (K.seen out.new) result }
 {

@@ -1,4 +1,5 @@
-//! The line of a damaged CD-ROM sector. `unfolding` is for the checker: it opens a definition that a clause names.
+//! The line of a damaged CD-ROM sector. It is put together in a `Line`, of at most 256 bytes, so that it goes out by
+//! one write and takes no memory. `unfolding` is for the checker: it opens a definition that a clause names.
 ghost use Rattle.std.specs.Prelude.{◌≡◌, ◌+◌, ◌≤◌, ◌++◌, length};
 ghost use Rattle.dvd_commands.specs.CdLines.{cd_cause_text, damaged_sector_line as line_of_sector};
 
@@ -6,7 +7,8 @@ use cd_sector::CdCause;
 use dvd_report::Line;
 
 /// The line that names sector `k` of the input and its first cause: `sector K: CAUSE` and a line feed. `k` counts from
-/// 0, as its sector of user data does in the output.
+/// 0, as its sector of user data does in the output. `pub` reaches no further than the crate, since the module is
+/// private.
 #[tactic(auto, unfolding(crate::specs::CdLines::damaged_sector_line))]
 pub fn damaged_sector_line(k: u32, cause: CdCause) -> Line
     ensures { result ≡ line_of_sector k cause }
@@ -19,8 +21,10 @@ pub fn damaged_sector_line(k: u32, cause: CdCause) -> Line
     line
 }
 
-// The longest is that of a parity word: 7 bytes and a number of up to 20 digits. An address has six hexadecimal digits,
-// which are minute, second and frame.
+// The words of a cause. `len` is for the caller, which puts a line feed after them. The longest is that of a parity
+// word: 7 bytes and a number. Words are numbered 0 to 137, but `put_named` promises no more of any number than that 20
+// digits are enough. An address is printed as it was read: three bytes, of minute, second and frame. A header has two
+// decimal digits in each, of four bits, so that hexadecimal digits show these.
 #[tactic(auto, unfolding(crate::specs::CdLines::cd_cause_text))]
 fn put_cause(line: &mut Line, cause: CdCause)
     requires room { length line.old + 27 ≤ 256 }

@@ -1,7 +1,8 @@
 //! The command `cdread`: the user data of CD-ROM sectors of Mode 1.
 //! Such a sector has 2,352 bytes: 12 of sync, 4 of header with address and mode, 2,048 of user data, and then EDC and
 //! parity. The command has no layout and takes no memory, so it can't be refused. `AreDone` says which steps, writes
-//! and lines, are done for a unit; where a call fails, only a first part of them is.
+//! and lines, are done for a unit; where a call fails, only a first part of them is. The clause of a function that
+//! isn't handed the source is of any (`source`), which stays as it is.
 ghost use Rattle.std.specs.Prelude.{◌+◌, ◌<◌, ◌≤◌, ℕ, refl};
 ghost use Rattle.dvd_loop.specs.Laws.{IsDamageEnd};
 ghost use Rattle.dvd_loop.specs.Machine.{IsOutcome};
@@ -19,7 +20,7 @@ use dvd_ports::{Sink, Source, write_whole};
 use dvd_words::Settings;
 
 /// The sectors that are read: the address of the first, and how many. By `within` no address reaches 450,000, which is
-/// minute 100: a header has two digits for it.
+/// minute 100 (of 60 seconds of 75 sectors): a header has two digits for it.
 #[derive(Drop)]
 struct CdRead {
     address: u32,
@@ -43,7 +44,8 @@ impl<S: Source, K: Sink, E: Sink> PlainCommand<S, K, E> for CdRead {
         self.sectors
     }
 
-    // The sector is on the stack, since the command takes no memory. `within` keeps the address in range.
+    // The sector is on the stack, since the command takes no memory; it is zeros first only since an array needs a
+    // value. `within` keeps the address in range.
     fn process(&mut self, k: u32, src: &mut S, out: &mut K, report: &mut E) -> Processed {
         let mut sector = [0; 2352];
         read_unit(src, k, &mut sector)?;
@@ -53,7 +55,7 @@ impl<S: Source, K: Sink, E: Sink> PlainCommand<S, K, E> for CdRead {
 
 /// Gives the user data of `settings.sectors` CD-ROM sectors with addresses from `settings.address` on, each repaired. A
 /// line names each that stays wrong, and zeros are written in its place. It is public for callers without arguments;
-/// dvd_top hands it on. `HasAddresses` is `within` of the settings.
+/// dvd_top hands it on. `HasAddresses` is `within` of the settings. `ends` says which ends a caller has to expect.
 pub fn cdread_loop<S: Source, K: Sink, E: Sink>(
     settings: &Settings,
     src: &mut S,
@@ -75,7 +77,8 @@ pub fn cdread_loop<S: Source, K: Sink, E: Sink>(
 
 // Repairs a sector and writes its user data; or reports its first cause and writes zeros.
 // The line goes first, so that whoever reads the report knows of the zeros. With them the sectors after this one keep
-// their places in the output.
+// their places in the output. `k` names the sector in that line; `address` is what its header has to have, so a sector
+// from another place isn't given. The sector is repaired in place, and nobody needs it afterwards.
 fn give_sector<K: Sink, E: Sink>(
     address: u32,
     k: u32,
@@ -88,7 +91,8 @@ fn give_sector<K: Sink, E: Sink>(
         (streams source (K.seen out.old) (E.seen report.old)) (streams source (K.seen out.new) (E.seen report.new)) result }
 {
     match repair(sector, address) {
-        // How many bytes were repaired isn't reported: a sector that is given has no line.
+        // How many bytes were repaired isn't reported: a sector that is given has no line. User data begin at byte 16,
+        // after sync and header.
         Ok(_) => unit_written(write_whole(out, &sector[16..2064]), UnitKind::Good),
         Err(cause) => {
             line_reported(write_whole(report, damaged_sector_line(k, cause).as_slice()))?;

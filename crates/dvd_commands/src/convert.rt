@@ -1,6 +1,7 @@
 //! The command `convert`: captured blocks in the listed form, after the header that states their layout.
 //! Nothing is decoded, and bytes and marks stay: only the marks are written otherwise, as runs. So a block can't be
-//! refused, and of the plan only the number of blocks counts.
+//! refused, and of the plan only the number of blocks counts. It writes no report, so its clauses are of any
+//! (`report`), which stays as it is.
 ghost use Rattle.std.specs.Prelude.{◌≡◌, length, IsErr};
 ghost use Rattle.dvd_capture.specs.Captured.{HasSize};
 ghost use Rattle.dvd_capture.specs.Header.{header_bytes};
@@ -40,7 +41,8 @@ struct Converting<'a> {
 // The clauses of these methods are in the trait: together they do what `convert_units` says. `key` is what these units
 // depend on, here the header too, with which the output opens; no method changes it. `ready` and `left` say nothing,
 // since a block doesn't depend on those before, and the caller needs nothing afterwards. It is no `PlainCommand`, since
-// a header opens the output. `Processed` is the kind of a unit, or how the loop ends in it.
+// a header opens the output. `Processed` is the kind of a unit, or how the loop ends in it. The trait has no default
+// bodies, so `close`, which has nothing to write, is there too.
 impl<'a, S: Source, K: Sink, E: Sink> UnitCommand<S, K, E> for Converting<'a> {
     ghost Key = { DiskLayout × WhichZones × CaptureForm × CaptureHeader };
 
@@ -56,11 +58,13 @@ impl<'a, S: Source, K: Sink, E: Sink> UnitCommand<S, K, E> for Converting<'a> {
         self.blocks.count()
     }
 
+    // The loop then requests one more byte: an input with more blocks than the layout is an end of its own (`Long`).
     fn after_last(&self) -> AfterLast {
         AfterLast::EndOfInput
     }
 
-    // Before the first block is read, so that the output begins with its header however the run ends.
+    // Before the first block is read, so that the output begins with its header however the run ends. A header of the
+    // listed form has 32 bytes. `?` makes an end of the loop of a write that failed, here and below.
     fn open(&self, out: &mut K, _report: &mut E) -> Result<(), LoopEnd> {
         let mut bytes = [0; 32];
         self.header.to_bytes(&mut bytes);
@@ -69,7 +73,7 @@ impl<'a, S: Source, K: Sink, E: Sink> UnitCommand<S, K, E> for Converting<'a> {
     }
 
     // A block is written only when it is whole. Plain and marked blocks break no rule, so that reading ends the run
-    // only where the input ends or a read fails.
+    // only where the input ends or a read fails. Every block is Good, whatever its marks are: nothing judges it here.
     fn process(&mut self, k: u32, src: &mut S, out: &mut K, _report: &mut E) -> Processed {
         fetch_block(src, k, self.form, self.work)?;
         write_listed(self.work, out)?;
@@ -84,7 +88,8 @@ impl<'a, S: Source, K: Sink, E: Sink> UnitCommand<S, K, E> for Converting<'a> {
 /// Writes the header of the layout and of the zones that the settings choose, and then each captured block as a listed
 /// one. The input is in the plain or the marked form (`form`): a listed capture has nothing to convert. It is public
 /// for callers with buffers of their own, of which nothing is promised afterwards. `IsLayoutOf`: the layout is the one
-/// that the settings ask for, made once by the caller; `HasSize`: the form is plain or marked.
+/// that the settings ask for, made once by the caller; `HasSize`: the form is plain or marked. What the work held
+/// before doesn't matter. `ends` says which ends a caller has to expect.
 pub fn convert_loop<S: Source, K: Sink>(
     settings: &Settings,
     layout: &Layout,
@@ -107,7 +112,7 @@ pub fn convert_loop<S: Source, K: Sink>(
         header: header_of(layout, settings.zones),
         work,
     };
-    // The loop wants a report, but this command writes none.
+    // The loop wants a report, but this command writes none. `run_owned` would do as well, since `left` says nothing.
     run_units(&mut converting, src, out, &mut NullSink::new())
 }
 

@@ -3,12 +3,14 @@
 //!
 //! A round is one step over the rows of a block and one over its columns; there are at most four. `Deep` is the memory
 //! of rounds, and `Piece` that of the sixteen sectors which they give. `Work` is that of the captured block, whose
-//! received rows and marks stay: so what two passes made of them is still there to be salvaged when rounds fail. All is
-//! done by one thread, since `deep` has no option for workers.
+//! received rows and marks stay: so what two passes made of them is still there to be salvaged when rounds fail.
+//! `Planned` is a block of the stream with its number, which lines name, and its entry in the plan of the layout. All
+//! is done by one thread, since `deep` has no option for workers.
 //!
 //! In the clauses `IsLayoutOf` says that the layout is the one that the settings ask for, `HasBlock` that the work
 //! holds a received block, and `HasNumbers` that the sector numbers of an entry have 24 bits. `AreDone` says which
-//! steps, writes and lines, are done for a unit; where a call fails, only a first part of them is.
+//! steps, writes and lines, are done for a unit; where a call fails, only a first part of them is. The clause of a
+//! function that isn't handed the source is of any (`source`), which stays as it is.
 ghost use Rattle.std.specs.Prelude.{◌≡◌, length, Some, IfErr, IfOk, IsErr, refl};
 ghost use Rattle.dvd_ports.specs.Seen.{Seen};
 ghost use Rattle.dvd_block.specs.Buffers.{piece_bytes};
@@ -91,7 +93,8 @@ impl<'a, S: Source, K: Sink, E: Sink> PlainCommand<S, K, E> for Deepening<'a> {
 /// refuse it, and writes its image sectors. A line names each that is refused; zeros are written for its sectors that
 /// aren't salvaged.
 /// It is public for callers with buffers of their own. What these held before doesn't matter, and nothing is promised
-/// of them afterwards.
+/// of them afterwards. The layout is what the settings ask for, made once by the caller. `ends` says which ends a
+/// caller has to expect.
 pub fn deep_loop<S: Source, K: Sink, E: Sink>(
     settings: &Settings,
     layout: &Layout,
@@ -159,7 +162,7 @@ pub(crate) fn run_deep<S: Source, K: Sink, E: Sink>(
 
 // Reads a block of image sectors and writes them, after the line of its round where two passes refused it. Or it
 // reports its cause, and writes those that are salvaged and zeros for the others. Any other block is passed over,
-// undecoded: nothing of it goes to the image.
+// undecoded: nothing of it goes to the image. The contents are listed by name, so that a new one has to be thought of.
 fn deep_block<K: Sink, E: Sink>(
     block: &Planned<'_>,
     deep: &mut Deep,
@@ -183,6 +186,8 @@ fn deep_block<K: Sink, E: Sink>(
         Ok(_) => write_image(block, work, UnitKind::Good, out),
         // Rounds are for refused blocks alone: one that two passes determine is given as `recover` gives it.
         Err(cause) => match search_block(entry, cause, deep, work, piece) {
+            // The image's last block may have fewer than sixteen sectors, the first of the piece: the rest isn't
+            // written.
             Ok(round) => {
                 let count = block.layout.image_sectors(entry.content);
                 let sectors = &piece.bytes()[..2048 * count];
@@ -193,8 +198,9 @@ fn deep_block<K: Sink, E: Sink>(
     }
 }
 
-// Searches by rounds for a block that was refused for this cause. Answers the round that gave it back with right
-// frames, with its Main Data in the piece; or why it is still refused.
+// Searches by rounds for a block that was refused for this cause. Answers the round, 1 to 4, that gave it back with
+// right frames, with its Main Data in the piece; or why it is still refused. The piece is apart from the sectors of the
+// work, and `work` is only read, so that the two passes' answers stay for the salvage.
 // Where rounds find nothing the cause of the two passes stays, as `recover` reports it. Where they find a block with a
 // wrong frame, the cause is that of the frame. The piece has no sectors then.
 fn search_block(
@@ -221,6 +227,8 @@ fn search_block(
 
 // Reports the line of a block that a round gave back, and writes its image sectors.
 // The line goes first, so that no sector of a refused block is written before it. The block is good: nothing is lost.
+// It has a line although it is good, since `recover` would refuse it. The sectors are those of the piece
+// that belong to the image, so no layout is needed here.
 fn give_back<K: Sink, E: Sink>(
     k: u32,
     entry: &BlockPlan,

@@ -28,7 +28,8 @@ use std::thread::Threads;
 
 /// The loop of the command that the settings name, or why it doesn't begin.
 /// The one place that names every command's function. What all of them begin with is put together here.
-/// Where it doesn't begin, input, output and report are untouched. The closing line is the caller's.
+/// Where it doesn't begin, input, output and report are untouched. The closing line is the caller's, `run` of dvd_top:
+/// a refusal has a line too, and both are written in one place. It is public for that caller alone.
 pub fn perform<R: Threads + Sync, S: Source, K: Sink, E: Sink, G: Gate>(
     workers: &Workers<'_, R, G>,
     alloc: Global,
@@ -43,9 +44,11 @@ pub fn perform<R: Threads + Sync, S: Source, K: Sink, E: Sink, G: Gate>(
         (streams (S.seen src.new) (K.seen out.new) (E.seen report.new)) result }
     ensures untouched { IsErr result → (src.new ≡ src.old) × (out.new ≡ out.old) × (report.new ≡ report.old) }
 {
-    // Three commands take no memory and have no layout, so they always begin. Those without `report` write no line of
-    // their own, and those without `workers` work with one thread. The bounds that each asks of the settings, as at
-    // most sixteen workers or captures, are in `IsValid`: reading the arguments ensures them.
+    // Three commands, whose loops are called at once, take no memory and have no layout, so they always begin. Those
+    // without `report` write no line of their own, and those without `workers` work with one thread. The bounds that
+    // each asks of the settings, as at most sixteen workers or captures, are in `IsValid`: reading the arguments
+    // ensures them. `exercise` is handed an input that it doesn't read, since its contract here is of all three
+    // streams.
     let start = Start { alloc, settings };
     match settings.command {
         Command::Frames => Ok(frames_loop(settings, src, out)),

@@ -10,7 +10,8 @@
 //! In the clauses `IsEntry` says that an entry is one of the plan of the layout, `HasBlock` that the work holds a
 //! received block, and `HasNumbers` that the sector numbers of an entry have 24 bits. `MayWork` and `MayRead` say that
 //! the runtime and the gate may be shared with threads, and that there are 1 to 16 workers; `IsAdder` and `IsReader`
-//! that a call of the closure does what `add_parity` or `read_block` does.
+//! that a call of the closure does what `add_parity` or `read_block` does. No report is written, so clauses are of any
+//! (`report`), which stays as it is; `no_stream` is that of a source that isn't there.
 ghost use Rattle.std.specs.Thread.{IsSync};
 ghost use Rattle.std.specs.Prelude.{◌≡◌, ◌⊎◌, ◌+◌, ◌-◌, ◌*◌, ◌<◌, ◌≤◌, ◌^◌, ℕ, length, None, replicate, false, true, IsErr};
 ghost use Rattle.std.specs.Str.{bytes_eq};
@@ -62,7 +63,8 @@ struct Counts {
 impl Counts {
     // Counts a block that was read, and whether it gave back what was drawn. A block adds less than 2^32 bytes and 2^16
     // rows, as their types say; at most 4,096 blocks are counted, so the sums keep far below 2^64. 4,096 is the limit
-    // of the option; nothing here needs one so low.
+    // of the option; nothing here needs one so low. A block has 37,856 bytes, but the types' bounds need no proof. The
+    // clauses `..._most` are for the rooms of the next block.
     fn add(&mut self, fixed: Fixed, is_whole: bool)
         requires whole_room { self.old.whole < 4096 }
         requires fixed_room { self.old.fixed ≤ 4096 * 2 ^ 32 }
@@ -83,7 +85,8 @@ impl Counts {
 }
 
 // Its seed and its blocks, the state that the next is drawn from, what was found so far, how a block gets its parity
-// and is read, and the memory of one block.
+// and is read, and the memory of one block. `some` is for `left`, which speaks of a last block. `shape` and `sectors`
+// say that the layout is that of `disk_of`, so that block k is an entry of its plan.
 #[derive(Drop)]
 struct Exercise<'a, 'r, A, F> {
     seed: u32,
@@ -114,7 +117,8 @@ where
 {
     ghost Key = { ℕ × ℕ × ℕ };
 
-    // With the name of the work, since the caller finds there what the last block left.
+    // With the name of the work, which says that it is the caller's own, and the same one all the time: the caller
+    // finds there what the last block left. The units don't depend on it.
     ghost key = { λ e. (e.seed, e.blocks, e.work.ghost_name) };
 
     ghost units = { λ key. exercise_units key.0 key.1 };
@@ -133,11 +137,13 @@ where
         AfterLast::Done
     }
 
+    // The trait has no default bodies, so it is there although nothing is written.
     fn open(&self, _out: &mut K, _report: &mut E) -> Result<(), LoopEnd> {
         Ok(())
     }
 
     // Nothing is read or written for a block. All are Good: one that didn't come back would only be missing in `whole`.
+    // The order of the calls is part of what is drawn: first the sectors, then the damage, from one generator.
     fn process(&mut self, k: u32, _src: &mut S, _out: &mut K, _report: &mut E) -> Processed {
         let entry = self.layout.plan(Zones::DataOnly, u64::from(k));
         draw_block(
@@ -159,7 +165,7 @@ where
         Ok(UnitKind::Good)
     }
 
-    // The line is the result, so it goes to the output.
+    // The line is the result, so it goes to the output. `?` makes an end of the loop of a write that failed.
     fn close(&self, out: &mut K, _report: &mut E) -> Result<(), LoopEnd> {
         let line = exercise_line(self.seed, self.blocks, &self.counts);
         write_whole(out, line.as_slice())?;
@@ -186,8 +192,9 @@ struct Drawing<'r, A, F> {
 }
 
 /// Draws, damages and reads back `settings.blocks` blocks, from 1 to 4,096. The work then holds the last of them, even
-/// where the line couldn't be written. It takes no input, and so hands on an empty one. It is public for callers with
-/// buffers of their own; the block and the piece are scratch.
+/// where the line couldn't be written. It has no input, and so hands on an empty one. It is public for callers with
+/// buffers of their own; the block and the piece are scratch. `rt` makes the workers, and each asks `gate` before its
+/// piece of a block. `ends` says which ends a caller has to expect: nothing is read or reported.
 pub fn exercise_loop<R: Threads + Sync, K: Sink, G: Gate>(
     rt: &R,
     settings: &Settings,
@@ -213,7 +220,8 @@ pub fn exercise_loop<R: Threads + Sync, K: Sink, G: Gate>(
     follow_trials(&setup, block, piece, work, &mut SliceSource::new(&[]), out)
 }
 
-// Likewise with any source, which stays as it is: the loop takes one, though these units read nothing.
+// Likewise with any source, which stays as it is: the loop asks for one, though these units read nothing. So
+// `run_exercise` can give the run's own, which its clauses are of.
 fn follow_trials<R: Threads + Sync, S: Source, K: Sink, G: Gate>(
     setup: &Setup<'_, R, G>,
     block: &mut Block,
@@ -285,11 +293,13 @@ where
         piece,
         work,
     };
-    // The loop wants a report, but this command writes none. By a reference, since what is left in the work counts.
+    // The loop wants a report, but this command writes none. By a reference, since what is left in the work counts:
+    // `run_owned` says nothing of it.
     run_units(&mut exercise, src, out, &mut NullSink::new())
 }
 
 /// The command with its buffers, or why it doesn't begin: only memory may be missing, since its layout is its own.
+/// `some` and `few` are the limits of the option, and sixteen the most workers that an option allows.
 pub(crate) fn run_exercise<R: Threads + Sync, S: Source, K: Sink, G: Gate>(
     workers: &Workers<'_, R, G>,
     start: &Start<'_>,
@@ -314,8 +324,9 @@ pub(crate) fn run_exercise<R: Threads + Sync, S: Source, K: Sink, G: Gate>(
     Ok(follow_trials(&setup, &mut block, &mut piece, &mut work, src, out))
 }
 
-// The smallest disk with so many blocks, each at an address of its own. No other zone is needed. Its 16 to 65,536
-// sectors break no rule of layouts, so the unwrapping can't fail.
+// The smallest disk with so many blocks, each at an address of its own. The zeros are the sectors of a second layer,
+// the Initial Zone and the zone after the data: none is needed. Its 16 to 65,536 sectors break no rule of layouts, so
+// the unwrapping can't fail.
 fn disk_of(blocks: u32) -> Layout
     requires some { 1 ≤ blocks }
     requires few { blocks ≤ 4096 }
@@ -333,7 +344,7 @@ fn rand_of(seed: u32) -> Rand
 }
 
 // Draws sixteen sectors, and makes their block as `master` does, with CPR_MAI zeros. The sectors stay in the piece, to
-// be compared with what is read.
+// be compared with what is read. Each of their 32,768 bytes is one step of the generator.
 fn draw_block<A: Fn(&mut Block)>(
     layout: &Layout,
     entry: &BlockPlan,
@@ -361,7 +372,8 @@ fn draw_block<A: Fn(&mut Block)>(
 
 // Loads a block, and damages it.
 // The block stays as it was made; the damage is done to its copy in the work. It goes on with the generator, so that
-// each block has other damage.
+// each block has other damage. `load_block` leaves no marks (`no_marks`): with any before the
+// damage, it might not be within the bound.
 fn load_hurt(block: &Block, rand: &mut Rand, work: &mut Work)
     ensures hurt { IsHurt (state_of rand.old) (block_rows block.now) no_marks (rows_of work.new) (marks_of_work work.new) }
     ensures state { state_of rand.new ≡ hurt_state (state_of rand.old) }
@@ -372,7 +384,9 @@ fn load_hurt(block: &Block, rand: &mut Rand, work: &mut Work)
 }
 
 // Reads a block and counts what is found of it. Its damage is within the bound, so that the reading finds no cause
-// (`right`) and its sectors are those that were drawn.
+// (`right`) and its sectors are those that were drawn: `image`, the bytes of the piece. That they are isn't required
+// here but assumed in `counted`, since it follows from the damage, which only the caller knows. `received` says that
+// the damaged rows and marks stay, which the caller promises of the last block.
 fn read_back<F: Fn(&mut Work, &BlockPlan) -> Result<Fixed, Cause>>(
     entry: &BlockPlan,
     image: &[u8],
@@ -395,14 +409,15 @@ fn read_back<F: Fn(&mut Work, &BlockPlan) -> Result<Fixed, Cause>>(
     ensures stage { stage_of work.new ≡ Stage.Fixed }
     ensures received { KeepsReceived work.old work.new }
 {
-    // The other case doesn't come, by `right`.
+    // The other case doesn't come, by `right`, and so has no arm.
     if let Ok(fixed) = read_by(read, work, entry) {
         counts.add(fixed, has_sectors(work, image));
     }
 }
 
 // Whether all sixteen sectors are those of the image. The line counts what comes out of this comparison, though by the
-// contract all blocks come back. `unfolding` is for the checker: it opens the definition that the clause names.
+// contract all blocks come back: so the line reports what was compared. `unfolding` is for the checker: it opens the
+// definition that the clause names.
 #[tactic(auto, unfolding(crate::specs::Inner::Exercising::are_sectors))]
 fn has_sectors(work: &Work, image: &[u8]) -> bool
     requires { length image.now ≡ 32768 }
@@ -411,6 +426,8 @@ fn has_sectors(work: &Work, image: &[u8]) -> bool
     (0..16).all(|f| is_sector(work, image, f))
 }
 
+// Whether sector `f` that was read is the one that was drawn. A function of its own, so that one comparison has one
+// clause.
 fn is_sector(work: &Work, image: &[u8], f: usize) -> bool
     requires size { length image.now ≡ 32768 }
     requires sector { f < 16 }
@@ -419,8 +436,9 @@ fn is_sector(work: &Work, image: &[u8], f: usize) -> bool
     work.sector(f) == &image[2048 * f..2048 * f + 2048]
 }
 
-// The line of a run: its seed and number of blocks, and the counts of what was read back. `unfolding` is for the
-// checker: it opens the definition that the clause names.
+// The line of a run: its seed and number of blocks, and the counts of what was read back. Its texts and five numbers of
+// at most 20 digits are below the 256 bytes of a `Line`. `unfolding` is for the checker: it opens the definition that
+// the clause names.
 #[tactic(auto, unfolding(crate::specs::Exercise::exercise_line))]
 fn exercise_line(seed: u32, blocks: u32, counts: &Counts) -> Line
     ensures { result ≡ exercise_line seed blocks counts.now.whole counts.now.fixed counts.now.failed }

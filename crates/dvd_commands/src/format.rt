@@ -1,6 +1,7 @@
 //! The lines of a physical format: a name and its value each. They are put together in one `Line`, of at most 256
 //! bytes, so that they can go out by one write; the clauses on lengths show that they fit. `unfolding` is for the
-//! checker: it opens a definition that a clause names.
+//! checker: it opens a definition that a clause names. A clause without a name before a body is the room that is needed
+//! in a line, and `len` is for the room of the next call.
 ghost use Rattle.std.specs.Prelude.{◌≡◌, ◌+◌, ◌<◌, ◌≤◌, ◌^◌, ◌++◌, codes, length, if◌then◌else◌};
 ghost use Rattle.dvd_control.specs.Format.{fields_of};
 ghost use Rattle.dvd_commands.specs.Info.{format_lines, number_line, sector_line};
@@ -8,7 +9,10 @@ ghost use Rattle.dvd_commands.specs.Info.{format_lines, number_line, sector_line
 use dvd_control::PhysicalFormat;
 use dvd_report::Line;
 
-/// The eleven lines of a physical format.
+/// The eleven lines of a physical format, in this order, on which readers of the output rest. What is yes or no in the
+/// format is printed as a number or a word: a disk has 1 layer or 2, and `bca` is 1 where there is a burst cutting
+/// area. Versions, rates and the like are printed as the codes that the disk has, not as what they mean. `pub` reaches
+/// no further than the crate, since the module is private.
 #[tactic(auto, unfolding(crate::specs::Info::format_lines))]
 pub fn format_lines(format: &PhysicalFormat) -> Line
     ensures { result ≡ format_lines (fields_of format.now) }
@@ -32,7 +36,7 @@ pub fn format_lines(format: &PhysicalFormat) -> Line
     lines
 }
 
-// The line of the track path. Both texts have 14 bytes, so the room for it is known.
+// The line of the track path, which has no number. Both texts have 14 bytes, so the room for it is known.
 fn path_line(opposite: bool) -> &'static [u8]
     ensures line { result.now ≡ (if opposite then codes "path opposite\n" else codes "path parallel\n") }
     ensures len { length result.now ≡ 14 }
@@ -44,7 +48,8 @@ fn path_line(opposite: bool) -> &'static [u8]
     }
 }
 
-// A line with a number in decimal: of eight bits, so at most 3 digits, and a line feed.
+// A line with a number in decimal: of eight bits, so at most 3 digits, and a line feed. `put_named` would do too, but
+// promises no more than 20 digits.
 fn put_number(lines: &mut Line, name: &[u8], number: u8)
     requires { length lines.old + length name.now + 4 ≤ 256 }
     ensures bytes { lines.new ≡ lines.old ++ number_line name.now number }

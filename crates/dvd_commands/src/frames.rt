@@ -1,5 +1,6 @@
 //! The command `frames`: a scrambled data frame for each sector. Only what is made of a sector differs from `cdmake`,
-//! so both go by `make_each`. It has no layout and takes no memory, so it can't be refused.
+//! so both go by `make_each`. It has no layout and takes no memory, so it can't be refused. It writes no report, so its
+//! clause is of any (`report`), which stays as it is.
 ghost use Rattle.dvd_loop.specs.Laws.{IsPlainEnd};
 ghost use Rattle.dvd_loop.specs.Machine.{IsOutcome};
 ghost use Rattle.dvd_loop.specs.Streams.{streams, HasEnded};
@@ -13,7 +14,8 @@ use dvd_words::Settings;
 
 /// Makes a scrambled data frame for each of `settings.sectors` sectors of 2,048 bytes, numbered from `settings.first`
 /// on. It is public for callers without arguments; dvd_top hands it on. `HasSectors`: there is a sector, and all of
-/// their numbers have 24 bits.
+/// their numbers have 24 bits. That there is a sector is a rule of the arguments, and nothing rests on it here. `ends`
+/// says which ends a caller has to expect.
 pub fn frames_loop<S: Source, K: Sink>(settings: &Settings, src: &mut S, out: &mut K) -> LoopEnd
     requires { HasSectors settings.now }
     ensures follows { (report : Seen) → HasEnded (IsOutcome (frames_units settings.now.first settings.now.sectors))

@@ -5,7 +5,8 @@
 //!
 //! In the clauses `HasBlock` says that the work holds a received block, and `HasNumbers` that the sector numbers of an
 //! entry have 24 bits. `AreDone` says which steps, writes and lines, are done for a unit; where a call fails, only a
-//! first part of them is.
+//! first part of them is. It writes no report, so clauses are of any (`report`, or `source` where the function isn't
+//! handed the source), which stays as it is.
 ghost use Rattle.std.specs.Prelude.{◌≡◌, ◌≤◌, ◌+◌, ℕ, None, IsErr, IfSome};
 ghost use Rattle.dvd_capture.specs.Rule.{HasBlock};
 ghost use Rattle.dvd_capture.specs.Works.{rows_of, marks_of_work, stage_of};
@@ -37,11 +38,12 @@ use dvd_ports::{NullSink, Sink, Source, write_whole};
 use dvd_read::read_block;
 use dvd_words::{Command, Settings};
 
-// The blocks of the lead-in after its Initial Zone, up to the last of control data: 2 + 30 + 192.
+// The blocks of the lead-in after its Initial Zone, up to the last of control data: 2 + 30 + 192. The 32 of Buffer Zone
+// 2 come after these, and can't answer.
 const BLOCKS_AFTER_INITIAL: u32 = 224;
 
 /// The blocks of the lead-in up to the last of control data, and the memory of one block. By `fits` their number has 32
-/// bits.
+/// bits: `most_initial`, 12,031, is the longest Initial Zone that a layout may have.
 #[derive(Drop)]
 struct Info<'a> {
     initial: u32,
@@ -53,7 +55,8 @@ struct Info<'a> {
 // The clauses of these methods are in the trait: together they do what `info_units` says. `key` is what these units
 // depend on; no method changes it. `ready` and `left` say nothing, since a block doesn't depend on those before, and
 // the caller needs nothing afterwards. It is no `PlainCommand`, since the run has an end of its own where no block
-// answers. `Processed` is the kind of a unit, or how the loop ends in it.
+// answers. `Processed` is the kind of a unit, or how the loop ends in it. The trait has no default bodies, so `open`
+// and `close`, which have nothing to write, are there too.
 impl<'a, S: Source, K: Sink, E: Sink> UnitCommand<S, K, E> for Info<'a> {
     ghost Key = { ℕ × CaptureForm };
 
@@ -92,7 +95,8 @@ impl<'a, S: Source, K: Sink, E: Sink> UnitCommand<S, K, E> for Info<'a> {
 
 /// Seeks the first control block that answers, and writes the lines of its physical format. What comes after that block
 /// isn't read. Of the settings only `initial` and `form` count. It is public for callers with buffers of their own, of
-/// which nothing is promised afterwards.
+/// which nothing is promised afterwards. What the work held before doesn't matter. `ends` says which ends a caller has
+/// to expect.
 pub fn info_loop<S: Source, K: Sink>(
     settings: &Settings,
     work: &mut Work,
@@ -109,7 +113,7 @@ pub fn info_loop<S: Source, K: Sink>(
         form: settings.form,
         work,
     };
-    // The loop wants a report, but this command writes none.
+    // The loop wants a report, but this command writes none. `run_owned` would do as well, since `left` says nothing.
     run_units(&mut info, src, out, &mut NullSink::new())
 }
 
@@ -137,7 +141,8 @@ pub(crate) fn run_info<S: Source, K: Sink>(
 }
 
 // Likewise for a listed capture: its header, and then its blocks.
-// The header states the length of the Initial Zone, on which the places of the control blocks depend.
+// The header states the length of the Initial Zone, on which the places of the control blocks depend. A run that ends
+// in the header did begin, so that is an end and no refusal.
 fn info_listed<S: Source, K: Sink>(
     settings: &Settings,
     work: &mut Work,
@@ -154,7 +159,8 @@ fn info_listed<S: Source, K: Sink>(
     }
 }
 
-// Seeks the physical format in a block of control data. Any other block is passed over.
+// Seeks the physical format in a block of control data. Any other block is passed over, undecoded. The contents are
+// listed by name, so that a new one has to be thought of.
 fn ask_block<K: Sink>(entry: &BlockPlan, work: &mut Work, out: &mut K) -> Processed
     requires numbers { HasNumbers entry.now }
     requires stage { HasBlock (stage_of work.old) }
@@ -177,14 +183,15 @@ fn ask_control<K: Sink>(entry: &BlockPlan, work: &mut Work, out: &mut K) -> Proc
     let Some(format) = format_in(entry, work) else {
         return Ok(UnitKind::Good);
     };
-    // One write, so that the output has a prefix of these lines after a fault.
+    // One write, so that the output has a prefix of these lines after a fault. `?` makes an end of the loop of a write
+    // that failed.
     write_whole(out, format_lines(&format).as_slice())?;
     Ok(UnitKind::Last)
 }
 
 // The physical format in the first sector of a block, if the block is right and the sector is one.
-// A block or a sector that is refused gives none, and the next one is asked. One thread reads it, since `info` has no
-// option for workers.
+// A block or a sector that is refused gives none, and the next one is asked: all control blocks have the same format,
+// so why one has none doesn't matter. One thread reads it, since `info` has no option for workers.
 fn format_in(entry: &BlockPlan, work: &mut Work) -> Option<PhysicalFormat>
     requires numbers { HasNumbers entry.now }
     requires stage { HasBlock (stage_of work.old) }

@@ -6,7 +6,7 @@
 //! one of its plan, `HasNumbers` that the sector numbers of an entry have 24 bits, `MayWork` that the runtime and the
 //! gate may be shared with threads, and that there are 1 to 16 workers, and `IsAdder` that each call of the closure
 //! adds the parity as `add_parity` does. Clauses `causes` say by the counts of a stream that the call that failed,
-//! where one did, was its last.
+//! where one did, was its last. No report is written, so clauses are of any (`report`), which stays as it is.
 ghost use Rattle.std.specs.Thread.{IsSync};
 ghost use Rattle.std.specs.Prelude.{◌≡◌, ◌-◌, ◌*◌, ◌<◌, ◌≤◌, ℕ, List, length, take, drop, replicate, IfErr, IsErr, OnOk, refl};
 ghost use Rattle.std.specs.Io.KnownBytes.{Consumes};
@@ -41,7 +41,8 @@ use dvd_ports::{NullSink, Sink, Source};
 use dvd_words::{Command, Settings};
 use std::thread::Threads;
 
-/// Its blocks, in the order of the plan, how they get their parity, and the buffers of one block.
+/// Its blocks, in the order of the plan, the bytes of CPR_MAI for frames of the Data Zone, how blocks get their parity,
+/// and the buffers of one block.
 #[derive(Drop)]
 struct Master<'a, 'r, F> {
     blocks: Blocks,
@@ -71,7 +72,8 @@ impl<'a, 'r, F: Fn(&mut Block), S: Source, K: Sink, E: Sink> PlainCommand<S, K, 
         self.blocks.count()
     }
 
-    // The whole recording of a block is written before the next is read. Nothing is read for one without image.
+    // The whole recording of a block is written before the next is read, so one block is all that is in memory. Nothing
+    // is read for one without image. Every block is Good: any bytes are an image.
     fn process(&mut self, k: u32, src: &mut S, out: &mut K, _report: &mut E) -> Processed {
         let entry = self.blocks.at(k);
         let size = image_size(&self.blocks.layout, &entry);
@@ -89,7 +91,8 @@ impl<'a, 'r, F: Fn(&mut Block), S: Source, K: Sink, E: Sink> PlainCommand<S, K, 
 
 /// Masters every block of the plan of the layout and the zones that the settings choose.
 /// It is public for callers with buffers of their own. What these held before doesn't matter, and nothing is promised
-/// of them afterwards.
+/// of them afterwards. The layout is what the settings ask for, made once by the caller. `rt` makes the workers, and
+/// each asks `gate` before its piece of a block. `ends` says which ends a caller has to expect.
 pub fn master_loop<R: Threads + Sync, S: Source, K: Sink, G: Gate>(
     rt: &R,
     settings: &Settings,
@@ -128,7 +131,7 @@ pub fn master_loop<R: Threads + Sync, S: Source, K: Sink, G: Gate>(
 
 /// The command with its buffers, or why it doesn't begin.
 /// It reads an image and no capture, so its layout always comes from the arguments. That is tried before memory is
-/// taken.
+/// taken: a broken rule is what a user can put right. Sixteen are the most workers that the option allows.
 pub(crate) fn run_master<R: Threads + Sync, S: Source, K: Sink, G: Gate>(
     workers: &Workers<'_, R, G>,
     start: &Start<'_>,
@@ -157,7 +160,8 @@ pub(crate) fn run_master<R: Threads + Sync, S: Source, K: Sink, G: Gate>(
     ))
 }
 
-// How many image bytes a block has: 0 for one without image, which reads nothing.
+// How many image bytes a block has: 0 for one without image, which reads nothing, and fewer than 32,768 for the last
+// one where sixteen sectors aren't left.
 fn image_size(layout: &Layout, entry: &BlockPlan) -> usize
     ensures value { result ≡ image_bytes layout.now entry.now }
     ensures most { result ≤ 32768 }
@@ -166,8 +170,8 @@ fn image_size(layout: &Layout, entry: &BlockPlan) -> usize
 }
 
 // Reads the image bytes of block `k` to the beginning of the piece, and fills the rest with zeros.
-// The piece held the block before, so the rest is filled each time. After an error the piece may be written in part,
-// and the loop ends.
+// The piece held the block before, so the rest is filled each time: an image that isn't whole blocks is filled up with
+// zero sectors. After a fault the piece may be written in part, and the loop ends.
 fn read_image<S: Source>(src: &mut S, k: u32, piece: &mut Piece, size: usize) -> Result<(), LoopEnd>
     requires { size ≤ 32768 }
     ensures length { length (piece_bytes piece.new) ≡ 32768 }
@@ -183,7 +187,8 @@ fn read_image<S: Source>(src: &mut S, k: u32, piece: &mut Piece, size: usize) ->
 }
 
 /// What a block is mastered of: its entry in the plan of the layout, the six bytes of CPR_MAI, and its image bytes,
-/// filled with zeros. `exercise` makes its blocks of the same.
+/// filled up with zeros to 32,768. `exercise` makes its blocks of the same, with a layout, bytes and sectors of its
+/// own. One value, since they go from call to call together.
 #[derive(Drop)]
 pub(crate) struct Mastered<'a> {
     pub layout: &'a Layout,
@@ -201,7 +206,9 @@ pub(crate) fn fill_block<F: Fn(&mut Block)>(given: &Mastered<'_>, add: &F, block
     requires adder { IsAdder F.Fn add.now }
     ensures { IsBlockOf (frames_of given.now.layout.now given.now.entry.now given.now.cpr.now given.now.sectors.now) (block_rows block.new) }
 {
-    // All frames of a block have the same preset of the scrambler, so its sequence is made once.
+    // All frames of a block have the same preset of the scrambler, so its sequence is made once: bits 4 to 7 of the
+    // sector number select it, and a block's first number is a multiple of 16. The frame's buffer is used again, since
+    // each frame writes all of it.
     let mut scrambler = Scrambler::new();
     let mut frame = [0; 2064];
     for f in 0..16 {
@@ -212,7 +219,8 @@ pub(crate) fn fill_block<F: Fn(&mut Block)>(given: &Mastered<'_>, add: &F, block
 }
 
 // Writes data frame `f` of a block. Only image sectors come from the input. The Main Data of the other contents, as
-// zeros or the physical format, are made here, by the rules of the layout.
+// zeros or the physical format, are made here, by the rules of the layout. The contents are listed by name, so that a
+// new one has to be thought of.
 fn write_frame(scrambler: &mut Scrambler, given: &Mastered<'_>, f: usize, frame: &mut [u8; 2064])
     requires size { length given.now.sectors.now ≡ 32768 }
     requires entry { IsEntry given.now.layout.now given.now.entry.now }
@@ -230,7 +238,8 @@ fn write_frame(scrambler: &mut Scrambler, given: &Mastered<'_>, f: usize, frame:
     }
 }
 
-// Sector `f` of sixteen. As an array, which frames are made of; a slice of 2,048 bytes always becomes one.
+// Sector `f` of sixteen. As an array, which frames are made of; a slice of 2,048 bytes always becomes one, so that the
+// unwrapping can't fail. It is lent, and not copied.
 fn sector_at(sectors: &[u8], f: usize) -> &[u8; 2048]
     requires size { length sectors.now ≡ 32768 }
     requires frame { f < 16 }
@@ -240,7 +249,8 @@ fn sector_at(sectors: &[u8], f: usize) -> &[u8; 2048]
 }
 
 // Makes frame `f` with these Main Data. Its ID, its CPR_MAI and which bytes are scrambled come from the entry, whatever
-// the Main Data are.
+// the Main Data are. `main` says that these are the Main Data of this frame, whoever made them: so one function ends
+// both cases of `write_frame`.
 fn make_with(
     scrambler: &mut Scrambler,
     given: &Mastered<'_>,
@@ -264,7 +274,8 @@ fn make_with(
     );
 }
 
-// Only frames of the Data Zone have the bytes that were asked for: CPR_MAI belongs to the protection of its data.
+// Only frames of the Data Zone have the bytes that were asked for, those that fill up its last block too: CPR_MAI
+// belongs to the protection of its data.
 fn cpr_of(area: Area, cpr: &[u8; 6]) -> [u8; 6]
     ensures { result ≡ cpr_in area cpr.now }
 {

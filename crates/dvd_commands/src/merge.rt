@@ -1,7 +1,8 @@
 //! The command `merge`: one stream of captured blocks, joined of several captures of one disk.
 //! The input has block 0 of each capture, then block 1 of each, and so on, so the memory of one block is enough. Bytes
 //! are joined place by place, whatever they hold: of the plan only the number of blocks counts, and nothing is decoded.
-//! Clauses `causes` say by the counts of a stream that the call that failed, where one did, was its last.
+//! Clauses `causes` say by the counts of a stream that the call that failed, where one did, was its last. No report is
+//! written, so clauses are of any (`report`), which stays as it is.
 ghost use Rattle.std.specs.Prelude.{◌≡◌, ◌*◌, ◌<◌, ◌≤◌, ℕ, length, IsErr, IfErr, OnOk, refl};
 ghost use Rattle.dvd_capture.specs.Captured.{block_size, Captures, HasSize};
 ghost use Rattle.dvd_capture.specs.Rule.{HasBlock};
@@ -34,7 +35,7 @@ use dvd_words::{Command, Settings};
 
 /// Its blocks, how many captures there are of each, and the memory of one capture and of the join. `sized`: the form is
 /// plain or marked, in which each block has the same size. A listed capture would state a layout for each capture.
-/// `few` keeps the bytes of a unit within 32 bits; the option allows 2 to 16 captures.
+/// `few` keeps the bytes of a unit within 32 bits; the option allows 2 to 16 captures, and nothing rests on the 2.
 #[derive(Drop)]
 struct Merging<'a> {
     blocks: Blocks,
@@ -63,7 +64,8 @@ impl<'a, S: Source, K: Sink, E: Sink> PlainCommand<S, K, E> for Merging<'a> {
         self.blocks.count()
     }
 
-    // The join goes out in the marked form, since a place where captures differ is marked.
+    // The join goes out in the marked form, since a place where captures differ, or which none has, is marked. Every
+    // block is Good: nothing judges it here.
     fn process(&mut self, k: u32, src: &mut S, out: &mut K, _report: &mut E) -> Processed {
         take_captures(src, k, self.form, self.captures, self.merge, self.work)?;
         unit_written(self.merge.write_marked(out), UnitKind::Good)
@@ -73,7 +75,8 @@ impl<'a, S: Source, K: Sink, E: Sink> PlainCommand<S, K, E> for Merging<'a> {
 /// Joins the captures of each block of the plan of the layout and the zones that the settings choose: a captured block
 /// of each of them, one after the other. It is public for callers with buffers of their own, of which nothing is
 /// promised afterwards. `IsLayoutOf`: the layout is the one that the settings ask for, made once by the caller;
-/// `HasSize`: the form is plain or marked.
+/// `HasSize`: the form is plain or marked. What the buffers held before doesn't matter. `ends` says which ends a caller
+/// has to expect.
 pub fn merge_loop<S: Source, K: Sink>(
     settings: &Settings,
     layout: &Layout,
@@ -125,7 +128,8 @@ pub(crate) fn run_merge<S: Source, K: Sink>(
 }
 
 // Joins the captures of block `k`, or answers how the loop ends within them. The join doesn't depend on earlier blocks:
-// it is cleared first. After an error it has some of the captures, and the loop ends before it is written.
+// it is cleared first. Each capture is joined before the next is read, so that one buffer is enough. After an error it
+// has some of the captures, and the loop ends before it is written.
 fn take_captures<S: Source>(
     src: &mut S,
     k: u32,
@@ -165,7 +169,8 @@ fn fetch_capture<S: Source>(
     ensures short { IfErr result (EndsInCapture k (c * block_size form) (block_size form) (S.seen src.old) (S.seen src.new)) }
     ensures causes { HasReadCause result (S.seen src.old) (S.seen src.new) }
 {
-    // The bytes of the captures before this one: at most 15 blocks of 42,640, which have room in 32 bits.
+    // The bytes of the captures before this one: at most 15 blocks of 42,640, which have room in 32 bits. So many has a
+    // marked block: 208 rows of 182 bytes, and 23 bytes of marks for each.
     let held = c * form.size() as u32;
     match fetch(src, form, work) {
         FetchAnswer::Full => Ok(()),
@@ -178,7 +183,7 @@ fn fetch_capture<S: Source>(
             bytes: held + bytes,
         }),
         FetchAnswer::ReadFault => Err(LoopEnd::ReadFault),
-        // Plain and marked blocks break no rule, so this doesn't come.
+        // Plain and marked blocks break no rule, so this doesn't come: the answer is that of listed blocks too.
         FetchAnswer::BadMarks { at } => Err(LoopEnd::BadMarks { block: k, at }),
     }
 }

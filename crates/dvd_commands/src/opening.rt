@@ -42,12 +42,13 @@ pub enum HeaderEnd {
 /// Reads the header of a listed capture: 32 bytes, and none after them. It is `Short` exactly where the input ended
 /// before. It is `BadHeader` exactly where a byte isn't allowed in a header or the layout that it states breaks a rule.
 /// It is `ReadFault` only where a read failed. `header` is of the bytes, and `counts` of the failed calls and ends that
-/// the source counts.
+/// the source counts. It is public for callers who read a listed capture by a loop, which knows no header.
 pub fn listed_layout<S: Source>(src: &mut S) -> HeaderEnd
     ensures header { ReadsHeader result (S.seen src.old) (S.seen src.new) }
     ensures counts { HeaderCounts result (S.seen src.old) (S.seen src.new) }
 {
     let mut bytes = [0; 32];
+    // Fewer than 32 come only at the end of the input. The count has room in 32 bits.
     match read_whole(src, &mut bytes) {
         Ok(count) if count < 32 => HeaderEnd::Short {
             bytes: count as u32,
@@ -58,8 +59,9 @@ pub fn listed_layout<S: Source>(src: &mut S) -> HeaderEnd
 }
 
 // What 32 bytes state, if they break no rule.
-// A byte that no header has is found first, then a rule of layouts: `Header` knows no layout. `left` is what comes
-// after them: the answer holds whatever that is.
+// A byte that no header has is found first, then a rule of layouts: `Header` knows no layout, and the numbers are read
+// only of a header that has the right bytes elsewhere. `left` is what comes after them: the answer holds whatever that
+// is.
 fn layout_in(bytes: &[u8; 32]) -> HeaderEnd
     ensures { (left : List ℕ) → AnswersHeader result bytes.now left }
 {
@@ -92,7 +94,8 @@ fn layout_of(header: &Header) -> HeaderEnd
 }
 
 /// The header that states a layout and zones: `convert` writes it. The clause is of any settings that ask for this
-/// layout and these zones.
+/// layout and these zones. `IsHeaderOf` is of two settings, those of the arguments and those that the header states:
+/// here they are the same, since the header is made of them.
 pub(crate) fn header_of(layout: &Layout, zones: Zones) -> Header
     ensures { (settings : WordSettings) → IsLayoutOf settings layout.now → settings.zones ≡ zones
         → IsHeaderOf settings settings (header_bytes result) }
@@ -107,7 +110,8 @@ pub(crate) fn header_of(layout: &Layout, zones: Zones) -> Header
     }
 }
 
-// The numbers are those of the format, so the order of the variants doesn't matter.
+// The number of a shape in byte 8 of a header. The numbers are those of the format, so the order of the variants
+// doesn't matter. `known` is what a `Header` asks of its fields.
 fn number_of_shape(shape: Shape) -> u8
     ensures number { shape_number shape ≡ result }
     ensures known { result < 3 }
@@ -119,6 +123,7 @@ fn number_of_shape(shape: Shape) -> u8
     }
 }
 
+// Likewise the number of the zones, in byte 9.
 fn number_of_zones(zones: Zones) -> u8
     ensures number { zones_number zones ≡ result }
     ensures known { result < 2 }
@@ -129,7 +134,8 @@ fn number_of_zones(zones: Zones) -> u8
     }
 }
 
-// Its number is 0, 1 or 2, so the last arm is that of 2. Likewise below.
+// The shape of a number in byte 8. It is 0, 1 or 2, since no other is a `Header`, so the last arm is that of 2.
+// Likewise below, for the zones.
 fn shape_of(number: u8) -> Shape
     requires { number < 3 }
     ensures { shape_number result ≡ number }
@@ -151,8 +157,9 @@ fn zones_of(number: u8) -> Zones
     }
 }
 
-// The first byte of the field that a broken rule of layouts names.
-// So the user finds the wrong field in a dump of the capture.
+// The first byte of the field that a broken rule of layouts names, as the head of this file has the fields.
+// So the user finds the wrong field in a view of the capture's bytes. A rule of several fields names that of the
+// sectors which it finds wrong.
 fn fault_byte(fault: LayoutFault) -> u32
     ensures { result ≡ fault_byte fault }
 {
@@ -176,7 +183,8 @@ fn layer_byte(layer: u8) -> u32
 }
 
 /// The layout that the arguments ask for, or the first rule that it breaks; none where a listed capture states its own.
-/// It is called before any memory is taken, so that a broken rule is the first thing to be found.
+/// It is called before any memory is taken, so that a broken rule is the first thing to be found. The header can't be
+/// read so early: a command that has no memory must have read nothing.
 pub(crate) fn layout_from_arguments(settings: &Settings) -> Result<Option<Layout>, LayoutFault>
     ensures worded { IfOk result (IsWorded settings.now) }
     ensures refused { IfErr result (λ fault. HasSize settings.now.form × (broken_rule settings.now ≡ Some fault)) }
@@ -188,7 +196,8 @@ pub(crate) fn layout_from_arguments(settings: &Settings) -> Result<Option<Layout
 }
 
 /// The length of the Initial Zone that the arguments ask for, or the rule that it breaks; none where a listed capture
-/// states its own. It is for `info`, which has no other length of a layout.
+/// states its own. It is for `info`, which has no other length of a layout. The length is that of the settings, and the
+/// answer has the form of `layout_from_arguments`: what counts is whether there is one.
 pub(crate) fn worded_initial(settings: &Settings) -> Result<Option<u32>, LayoutFault>
     ensures worded { IfOk result (IsWordedInitial settings.now) }
     ensures refused { IfErr result (λ fault. HasSize settings.now.form × (initial_fault settings.now.initial ≡ Some fault)) }
@@ -202,7 +211,8 @@ pub(crate) fn worded_initial(settings: &Settings) -> Result<Option<u32>, LayoutF
     }
 }
 
-/// The settings of a run with the layout and the zones that a listed capture states, and that layout.
+/// The settings of a run with the layout and the zones that a listed capture states, and that layout. The layout
+/// follows from the settings, but it is made already, and needn't be tried again.
 #[derive(Drop)]
 pub(crate) struct Stated {
     /// The settings of the run, as the header states them.
@@ -212,7 +222,7 @@ pub(crate) struct Stated {
 }
 
 /// Reads the header of a listed capture, or answers how the run ends in it. Settings that no header states, as the
-/// workers, stay those of the arguments.
+/// workers, stay those of the arguments. `info` calls it by itself: it needs no layout.
 pub(crate) fn open_listed<S: Source>(settings: &Settings, src: &mut S) -> Result<Stated, LoopEnd>
     ensures opened { IfOk result (λ stated. HasOpened settings.now (S.seen src.old) (S.seen src.new) stated.settings stated.layout) }
     ensures ended { IfErr result (EndsInHeader settings.now (S.seen src.old) (S.seen src.new)) }
@@ -239,7 +249,9 @@ pub(crate) fn open_listed<S: Source>(settings: &Settings, src: &mut S) -> Result
 
 /// The settings and the layout by which a command goes over its blocks: those of its arguments, or those that the
 /// header of a listed capture states, which is read here; or how the run ends in that header.
-/// So a loop is the same for all forms, and knows no header.
+/// So a loop is the same for all forms, and knows no header. `worded` is what `layout_from_arguments` answered: that
+/// was called before memory was taken, and this is called after. The settings are copied, so that both cases give the
+/// same.
 pub(crate) fn open_blocks<S: Source>(
     settings: &Settings,
     worded: Option<Layout>,

@@ -2,13 +2,15 @@
 //!
 //! `run_recover` takes the memory and reads the header of a listed capture, `recover_loop` goes over all blocks of the
 //! plan, and `recover_block` does one. `Work` is the memory of one captured block: its received rows and marks, what
-//! two passes made of them, and its sixteen sectors. Each block overwrites what the one before left there.
+//! two passes made of them, and its sixteen sectors. Each block overwrites what the one before left there. `Planned` is
+//! a block of the stream with its number, which lines name, and its entry in the plan of the layout.
 //!
 //! In the clauses `IsLayoutOf` says that the layout is the one that the settings ask for, `HasBlock` that the work
 //! holds a received block, `HasNumbers` that the sector numbers of an entry have 24 bits, `MayRead` that besides these
 //! the runtime and the gate may be shared with threads, and that there are 1 to 16 workers, and `IsReader` that each
 //! call of the closure reads a block as `read_block` does. `AreDone` says which steps, writes and lines, are done for a
-//! unit; where a call fails, only a first part of them is.
+//! unit; where a call fails, only a first part of them is. The clause of a function that isn't handed the source is of
+//! any (`source`), which stays as it is.
 ghost use Rattle.std.specs.Thread.{IsSync};
 ghost use Rattle.std.specs.Prelude.{◌≡◌, ◌≤◌, length, IsErr, refl};
 ghost use Rattle.dvd_ports.specs.Seen.{Seen};
@@ -91,7 +93,8 @@ where
 /// Reads every block of the plan of the layout and the zones that the settings choose, and writes its image sectors. A
 /// line names each that is refused, and zeros are written for its sectors that aren't salvaged.
 /// It is public for callers with buffers of their own. What the work held before doesn't matter, and nothing is
-/// promised of it afterwards.
+/// promised of it afterwards. The layout is what the settings ask for, made once by the caller. `rt` makes the workers,
+/// and each asks `gate` before its piece of a block. `ends` says which ends a caller has to expect.
 pub fn recover_loop<R: Threads + Sync, S: Source, K: Sink, E: Sink, G: Gate>(
     rt: &R,
     settings: &Settings,
@@ -165,7 +168,8 @@ pub(crate) fn run_recover<R: Threads + Sync, S: Source, K: Sink, E: Sink, G: Gat
 
 // Decodes a block of image sectors and writes them. Or it reports its cause, and writes those that are salvaged and
 // zeros for the others. Any other block is passed over, undecoded: nothing of it goes to the image, so damage there
-// costs nothing.
+// costs nothing. The contents are listed by name, so that a new one has to be thought of. `deep_block` has the same
+// form, but reads by one thread and tries rounds.
 fn recover_block<F: Fn(&mut Work, &BlockPlan) -> Result<Fixed, Cause>, K: Sink, E: Sink>(
     block: &Planned<'_>,
     read: &F,

@@ -1,5 +1,6 @@
 //! Why a command doesn't begin. Nothing has been read, written or reported then. The conversions below are those of `?`
-//! in the functions that begin a command; `from_gives` is what is proved of them.
+//! in the functions that begin a command; `from_gives` is what is proved of them. The trait asks for it in place of a
+//! clause.
 ghost use Rattle.std.specs.Prelude.{◌≡◌};
 ghost use Rattle.dvd_commands.specs.declared.refusal.Refusal.TheVariants.{Setting as setting, NoMemory as no_memory};
 
@@ -11,7 +12,7 @@ use dvd_ports::NoMemory;
 pub enum Refusal {
     /// The layout that the settings ask for is not valid.
     Setting(LayoutFault),
-    /// There is no memory for its buffers.
+    /// There is no memory for its buffers. Which of them it was, nobody asks.
     NoMemory,
 }
 

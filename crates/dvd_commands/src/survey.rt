@@ -10,7 +10,8 @@
 //! the runtime and the gate may be shared with threads, and that there are 1 to 16 workers, and `IsReader` that each
 //! call of the closure reads a block as `read_block` does. `AreDone` says which steps, writes and lines, are done for a
 //! unit; where a call fails, only a first part of them is. Clauses `causes` say by the counts of a stream that the call
-//! that failed, where one did, was its last.
+//! that failed, where one did, was its last. No report is written, so clauses are of any (`report`, or `source` where
+//! the function isn't handed the source), which stays as it is.
 ghost use Rattle.std.specs.Thread.{IsSync};
 ghost use Rattle.std.specs.Prelude.{◌≡◌, ◌≢◌, ◌++◌, ◌<◌, ◌≤◌, ◌^◌, List, [], ◌∷◌, length, IsErr};
 ghost use Rattle.std.specs.Result.{result_err};
@@ -64,7 +65,8 @@ struct Surveying<'a, 'r, F> {
 // The clauses of these methods are in the trait: together they do what `survey_units` says. `key` is what these units
 // depend on; no method changes it. `ready` is what holds between blocks: the survey is that of the blocks before.
 // `left` says what the end leaves to the caller, here nothing. It is no `PlainCommand`, since a line needs the blocks
-// before, and totals close the survey. `Processed` is the kind of a unit, or how the loop ends in it.
+// before, and totals close the survey. `Processed` is the kind of a unit, or how the loop ends in it. The trait has no
+// default bodies, so `open`, which has nothing to write, is there too.
 impl<'a, 'r, F, S: Source, K: Sink, E: Sink> UnitCommand<S, K, E> for Surveying<'a, 'r, F>
 where
     F: Fn(&mut Work, &BlockPlan) -> Result<Fixed, Cause>,
@@ -83,6 +85,7 @@ where
         self.blocks.count()
     }
 
+    // The loop then requests one more byte: an input with more blocks than the plan is an end of its own (`Long`).
     fn after_last(&self) -> AfterLast {
         AfterLast::EndOfInput
     }
@@ -98,7 +101,8 @@ where
         survey_block(&entry, self.read, self.survey, self.work, out)
     }
 
-    // Before one more byte is requested, so that an input that is too long has its totals too.
+    // Before one more byte is requested, so that an input that is too long has its totals too. `?` makes an end of the
+    // loop of a write that failed.
     fn close(&self, out: &mut K, _report: &mut E) -> Result<(), LoopEnd> {
         self.survey.write_totals(out)?;
         Ok(())
@@ -107,7 +111,9 @@ where
 
 /// Surveys every block of the plan of the layout and the zones that the settings choose. The survey has to be empty
 /// before. It is public for callers with buffers of their own, of which nothing is promised afterwards. `unfolding`
-/// shows the checker that nothing is found of no block.
+/// shows the checker that nothing is found of no block. `rt` makes the workers, and each asks `gate` before its piece
+/// of a block. `ends` says which ends a caller has to expect. It is that of all commands that read captures, and allows
+/// a failed report: `no_report` says that this one has none.
 #[tactic(auto, unfolding(crate::specs::Survey::found_in))]
 pub fn survey_loop<R: Threads + Sync, S: Source, K: Sink, G: Gate>(
     rt: &R,
@@ -183,8 +189,9 @@ pub(crate) fn run_survey<R: Threads + Sync, S: Source, K: Sink, G: Gate>(
 }
 
 // Reads a block, adds it to the survey, and writes its line.
-// It is added first, since its line is the last of the survey. A plan has fewer blocks than `room` allows. After a
-// failed write the block stays added, and the run ends.
+// It is added first, since its line is the last of the survey: `write_line` prints what `add` counted. `room` keeps the
+// count of blocks in its bits, and a plan has fewer blocks than it allows. After a failed write the block stays added,
+// and the run ends. `blocks` in the clauses is the list of those before.
 fn survey_block<F: Fn(&mut Work, &BlockPlan) -> Result<Fixed, Cause>, K: Sink>(
     entry: &BlockPlan,
     read: &F,

@@ -1,4 +1,5 @@
-//! What the writes of a unit came to.
+//! What the writes of a unit came to. `AreDone` says which steps are done for a unit, and `WritesAlone` that they are
+//! one write of these bytes.
 ghost use Rattle.std.specs.Prelude.{◌≡◌, ℕ, IfErr, List};
 ghost use Rattle.dvd_loop.specs.Streams.{streams};
 ghost use Rattle.dvd_loop.specs.UnitCommand.{AreDone};
@@ -9,7 +10,9 @@ ghost use Rattle.dvd_commands.specs.Inner.Performing.{WritesAlone};
 use dvd_loop::{LoopEnd, Processed, UnitKind};
 use dvd_ports::WriteFault;
 
-/// A unit of this kind, whose write was answered so: its kind, or the fault that ends the loop.
+/// A unit of this kind, whose write was answered so: its kind, or the fault that ends the loop. `?` does the same, but
+/// here is the clause that draws `AreDone` from what the write ensures, whatever the bytes and the streams are: so it
+/// is proved once.
 pub(crate) fn unit_written(answer: Result<(), WriteFault>, kind: UnitKind) -> Processed
     ensures { (bytes : List ℕ) (source output new_output report : Seen) → IsWritten bytes output new_output answer
         → AreDone (WritesAlone bytes kind) (streams source output report) (streams source new_output report) result }

@@ -18,8 +18,9 @@ use dvd_capture::Work;
 use dvd_layout::BlockPlan;
 use dvd_read::{Cause, Fixed};
 
-/// What makes the workers of a run, and the gate that each of them asks before a piece: a part of a block's rows or
-/// columns. Tests watch the workers by a gate; the program's own lets all pass.
+/// What makes the workers of a run (`rt`, the runtime), and the gate that each of them asks before a piece: a part of a
+/// block's rows or columns. Tests watch the workers by a gate; the program's own lets all pass. How many workers there
+/// are is in the settings. Both are borrowed, since all workers share them.
 #[derive(Drop)]
 pub struct Workers<'a, R, G> {
     pub rt: &'a R,
@@ -28,7 +29,8 @@ pub struct Workers<'a, R, G> {
 
 /// Reads a captured block as an entry of a plan, as `dvd_read::read_block` does.
 /// A function of its own, so that what a call of the closure does is drawn from `IsReader` in one place. The work then
-/// has the sectors of the block, or zeros after a cause; its received rows and marks stay.
+/// has the sectors of the block, or zeros after a cause; its received rows and marks stay. `recover`, `survey` and
+/// `exercise` call it; `deep` and `info` have no workers, and call `dvd_read::read_block` itself.
 pub(crate) fn read_by<F: Fn(&mut Work, &BlockPlan) -> Result<Fixed, Cause>>(
     read: &F,
     work: &mut Work,
@@ -43,7 +45,7 @@ pub(crate) fn read_by<F: Fn(&mut Work, &BlockPlan) -> Result<Fixed, Cause>>(
 }
 
 /// Sets the inner and the outer parity of a block, as `Block::add_parity` does. The other bytes stay. Likewise a
-/// function of its own.
+/// function of its own, for `IsAdder`. `fill_block` calls it, and so `master` and `exercise`.
 pub(crate) fn add_by<F: Fn(&mut Block)>(add: &F, block: &mut Block)
     requires adder { IsAdder F.Fn add.now }
     ensures { IsParityAdded (block_rows block.old) (block_rows block.new) }
