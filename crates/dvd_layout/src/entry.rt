@@ -47,9 +47,9 @@ pub struct BlockPlan {
 }
 
 /// The ID of frame `f` of a block; `dim` says whether the disk has two layers.
-/// It is a function and no method, since an entry doesn't know whether the disk has two layers. Readers give `false`
-/// for `dim`, as `Id::same_place` doesn't compare that bit. The clause `numbers` says that the layer is 0 or 1, and
-/// that the numbers of all sixteen frames have 24 bits; each entry of a plan has it, by a law.
+/// An entry doesn't know whether the disk has two layers, so `dim` is a parameter. `master` gives `Layout::dim`.
+/// Readers give `false`, as `Id::same_place` doesn't compare that bit. The clause `numbers` says that the layer is 0 or
+/// 1, and that the numbers of all sixteen frames have 24 bits; each entry of a plan has it, by a law.
 pub fn id_of(plan: &BlockPlan, dim: bool, f: usize) -> Id
     requires frame { f < 16 }
     requires numbers { HasNumbers plan.now }
@@ -60,6 +60,7 @@ pub fn id_of(plan: &BlockPlan, dim: bool, f: usize) -> Id
 
 /// Which Main Data bytes of frame `f` of a block are scrambled: all, zeros and control data too. The Reference Code
 /// Zone is the exception: there only the first 160 of each block's first frame are (ECMA-267, Reference Code Zone).
+/// Nothing else of an entry counts, so the content alone is given.
 pub fn rule_of(content: Content, f: usize) -> Rule
     requires { f < 16 }
     ensures { result ≡ rule_for content f }

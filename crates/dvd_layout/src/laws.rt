@@ -37,7 +37,8 @@ pub fn plan_begins_with_the_lead_in()
     ensures { PlanBeginsWithTheLeadIn }
 {}
 
-/// No two image sectors have one place: they differ in layer or in sector number.
+/// No two image sectors have one place: they differ in layer or in sector number. So a place names one image sector at
+/// most.
 pub fn places_differ()
     ensures { PlacesDiffer }
 {}

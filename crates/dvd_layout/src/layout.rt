@@ -12,15 +12,16 @@ use crate::plan::DATA_FIRST;
 const MAX_INITIAL: u32 = 12_031;
 
 // The longest zone after the data, in ECC blocks. They are 030000 sectors: on the opposite path data end at FD0000 at
-// the latest, and no sector number passes FFFFFF.
+// the latest, and no sector number passes FFFFFF. Other shapes have the same limit, so that there is one.
 const MAX_TAIL: u32 = 12_288;
 
 // The highest sector number that may follow a layer that begins at 030000 and the zone after its data. On the opposite
-// path, layer 1 has the numbers from 1000000 less this end on: none is one of layer 0.
+// path, layer 1 has the numbers from 1000000 less this end on: none is one of layer 0. It is the limit of all shapes.
 const LAST_END: u64 = 0x80_0000;
 
 /// Checks that an Initial Zone may have `initial` ECC blocks, or returns the rule that it breaks.
-/// It is a function of its own for `info`, which reads a lead-in and knows no other length of the disk.
+/// It is a function of its own for `info`, which reads a lead-in and knows no other length of the disk. `Layout::new`
+/// doesn't call it, since its body has the tests of `first_fault` one by one, and that doesn't cite `initial_fault`.
 pub fn check_initial(initial: u32) -> Result<(), LayoutFault>
     ensures refused { IfErr result (λ fault. initial_fault initial ≡ Some fault) }
     ensures valid { IsOk result → initial_fault initial ≡ None }
@@ -42,6 +43,7 @@ pub enum Shape {
     Opposite,
 }
 
+// By cases, as the definitions are, so that no new shape can be passed over here.
 impl Shape {
     /// Whether the disk has two layers.
     pub fn has_two_layers(self) -> bool
@@ -175,7 +177,8 @@ impl Layout {
                 end: end0,
             });
         }
-        // On a disk of one layer `sectors1` is 0, and this end is far below the limit.
+        // It is counted from 030000 for every shape. On a disk of one layer `sectors1` is 0, and on the opposite path
+        // layer 1 is no longer than layer 0: so only on the parallel path this rule can be broken.
         let end1 = layer_end(sectors1, tail);
         if end1 > LAST_END {
             return Err(LayoutFault::LayerTooLong {

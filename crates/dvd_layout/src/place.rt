@@ -26,7 +26,8 @@ impl Layout {
     }
 
     /// The number of image sectors that a block of this content holds. The last block of an image may have fewer than
-    /// sixteen: zero sectors fill it. Any content may be asked for, so one that begins after the image has 0.
+    /// sixteen: zero sectors fill it. Any content may be asked for, so one that begins after the image has 0. It is a
+    /// `usize`, since callers cut their buffers by it.
     pub fn image_sectors(&self, content: Content) -> usize
         ensures value { result ≡ image_sectors self.now content }
         ensures most { result ≤ 16 }
@@ -37,8 +38,8 @@ impl Layout {
         }
     }
 
-    /// The layer and the sector number of an image sector. The image goes on with layer 1 where the data of layer 0
-    /// end. On a disk of one layer every image sector is below `sectors0`.
+    /// The layer and the sector number of an image sector, in this order. The image goes on with layer 1 where the data
+    /// of layer 0 end. On a disk of one layer every image sector is below `sectors0`.
     pub fn sector_of(&self, lba: u32) -> (u8, u32)
         requires { lba < total_sectors self.now }
         ensures { result ≡ place_of self.now lba }
@@ -55,16 +56,19 @@ impl Layout {
 
     /// The image sector at a layer and a sector number, or `None` where there is no image sector. On the parallel path
     /// both layers have the same numbers, so the layer is needed too. Any layer may be asked for, and any number: those
-    /// of padding, which fills the last block of a layer, have no image sector.
+    /// of padding, which fills the last block of a layer, have no image sector. The clauses say that it undoes
+    /// `sector_of`: so it needs no definition of its own.
     pub fn lba_of(&self, layer: u8, number: u32) -> Option<u32>
         ensures within { IfSome result (λ lba. lba < total_sectors self.now) }
         ensures exact { (lba : ℕ) → lba < total_sectors self.now → (result ≡ Some lba) ↔ (place_of self.now lba ≡ (layer, number)) }
     {
+        // Where the data of the layer begin, how many image sectors they have, and how many come before them.
         let (first, sectors, before) = match layer {
             0 => (DATA_FIRST, self.sectors0, 0),
             1 => (self.second_first(), self.sectors1, self.sectors0),
             _ => return None,
         };
+        // A number before the data has no image sector either.
         let offset = number.checked_sub(first)?;
         if offset < sectors {
             Some(before + offset)

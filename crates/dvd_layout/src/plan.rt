@@ -24,14 +24,15 @@ const SECOND_END: u32 = 0xFD_0000;
 type ZoneTable = ArrayVec<Zone, 14>;
 
 impl Layout {
-    /// The number of ECC blocks in a stream of these zones. 32 bits would do, and callers take it so; 64 are a choice.
+    /// The number of ECC blocks in a stream of these zones. It is far below 2^32, since sector numbers have 24 bits: so
+    /// callers may cast it to 32 bits, and 64 are a choice.
     pub fn blocks(&self, zones: Zones) -> u64
         ensures { result ≡ length (plan_of self.now zones) }
     {
         count_blocks(&self.zone_table(zones))
     }
 
-    /// Entry `k` of the plan of these zones.
+    /// Entry `k` of the plan of these zones. Each call lists the zones anew: `zone_table` says why.
     pub fn plan(&self, zones: Zones, k: u64) -> BlockPlan
         requires { k < length (plan_of self.now zones) }
         ensures { slice_get (plan_of self.now zones) k ≡ Some result }
@@ -51,7 +52,8 @@ impl Layout {
         }
     }
 
-    // Every zone, in the order in which a stream has them.
+    // Every zone, in the order in which a stream has them: layer 0 from its lead-in outwards, and then layer 1 as it is
+    // read. Only on the parallel path layer 1 is a layer like layer 0.
     fn all_zones(&self) -> ZoneTable
         ensures { result.items ≡ zones_by self.now self.now.shape }
     {
@@ -80,8 +82,8 @@ impl Layout {
         table
     }
 
-    // Adds a layer that is read from the inside, with this Data Zone. The clause `numbers` leaves room in 32 bits for
-    // the sum in `zone_after`.
+    // Adds a layer that is read from the inside, with this Data Zone: seven zones, five of them the lead-in. The clause
+    // `numbers` leaves room in 32 bits for the sum in `zone_after`.
     fn push_layer(&self, table: &mut ZoneTable, image: Zone)
         requires room { array_vec_len table.old ≤ 7 }
         requires numbers { image.first + 16 * image.blocks < 2 ^ 32 }
@@ -95,7 +97,8 @@ impl Layout {
 
     // Adds both layers of the opposite track path. Layer 1 is read inwards from where layer 0 ended: its middle zone
     // comes before its data, with the numbers just below theirs, and it has no lead-in of its own. That zone begins at
-    // 800000 or above: layer 0 and its own middle zone end at 800000 at the latest, and these are the same lengths.
+    // 800000 or above: layer 0 and its own middle zone end at 800000 at the latest, and these are the same lengths. So
+    // the difference below can't be negative.
     fn push_opposite(&self, table: &mut ZoneTable)
         requires room { array_vec_len table.old ≤ 4 }
         requires shape { self.now.shape ≡ Shape.Opposite }
@@ -126,8 +129,8 @@ impl Layout {
         data_zone(self.second_first(), self.sectors1, 1, self.sectors0)
     }
 
-    /// The sector number where the data of layer 1 begin. On a disk of one layer it means nothing. It is public for
-    /// dvd_control, which writes the last sector number of the data into the lead-in.
+    /// The sector number where the data of layer 1 begin. On a disk of one layer it means nothing: `sectors1`
+    /// is 0 there. It is public for dvd_control, which writes the last sector number of the data into the lead-in.
     pub fn second_first(&self) -> u32
         ensures { result ≡ second_first self.now }
     {
@@ -143,7 +146,8 @@ impl Layout {
 
 /// Block `k` of the lead-in of layer 0, with an Initial Zone of `initial` ECC blocks. After that zone come the
 /// reference code, a buffer zone, the control data and another buffer zone, 256 blocks in all.
-/// It is for `info`, which knows no layout yet. The plan of every layout begins with these blocks, by a law.
+/// It is for `info`, which knows no layout yet. The plan of every layout begins with these blocks, by a law. `k` has 32
+/// bits, since a lead-in has at most 12,287 blocks.
 pub fn lead_in_block(initial: u32, k: u32) -> BlockPlan
     requires initial { initial ≤ most_initial }
     requires block { k < initial + 256 }
@@ -176,7 +180,8 @@ fn push_lead_in(table: &mut ZoneTable, initial: u32, layer: u8)
     table.push(zeros(0x02_FE00, 32, Area::LeadIn, layer));
 }
 
-// A Data Zone of `sectors` image sectors, from image sector `from` on.
+// A Data Zone of `sectors` image sectors, from image sector `from` on. Its length is in whole blocks: padding is a part
+// of it.
 fn data_zone(first: u32, sectors: u32, layer: u8, from: u32) -> Zone
     ensures { result ≡ zone_of first (blocks_of sectors) Area.DataZone layer (Content.Image from) }
 {

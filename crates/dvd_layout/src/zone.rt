@@ -8,7 +8,8 @@ use crate::entry::{BlockPlan, Content};
 use dvd_frame::Area;
 
 /// A zone of a layer: its first sector number, its length in ECC blocks, and what it holds.
-/// The image sector of its content is the first of its first block. A zone may have no blocks.
+/// The image sector of its content is the first of its first block. A zone may have no blocks. It is public since the
+/// definition of a plan names it; no public call returns one.
 #[derive(Clone, Copy, Debug, PartialEq, Eq)]
 pub struct Zone {
     /// The number of its first sector.
@@ -23,7 +24,7 @@ pub struct Zone {
     pub content: Content,
 }
 
-// An empty zone fills the unused places of a table.
+// An empty zone fills the unused places of a table, for which `ArrayVec` needs a default. Nobody reads it.
 impl Default for Zone {
     fn default() -> Zone
         ensures { result ≡ zone_of 0 0 Area.DataZone 0 Content.Zero }
@@ -39,7 +40,8 @@ impl Default for Zone {
 }
 
 impl Zone {
-    /// Block `b` of the zone.
+    /// Block `b` of the zone, counted from 0. A block has sixteen sectors. `numbers` leaves room for its sector
+    /// numbers.
     pub(crate) fn entry(&self, b: u32) -> BlockPlan
         requires block { b < self.now.blocks }
         requires numbers { IsInRange self.now }
@@ -55,7 +57,8 @@ impl Zone {
 }
 
 /// The number of blocks of these zones. That they are few, and their sector numbers have 24 bits, leaves room for the
-/// sum. A table has at most fourteen, and each at most 2^20 blocks: any small number would do in place of 16.
+/// sum, which has the 64 bits of `Layout::blocks`. A table has at most fourteen, and each at most 2^20 blocks: any
+/// small number would do in place of 16.
 pub(crate) fn count_blocks(zones: &[Zone]) -> u64
     requires few { length zones.now < 16 }
     requires numbers { All IsInRange zones.now }
@@ -69,7 +72,7 @@ pub(crate) fn count_blocks(zones: &[Zone]) -> u64
 }
 
 /// Block `k` of these zones, counted from the first block of the first zone. A zone without blocks is passed over. The
-/// clause `numbers` leaves room for the sector numbers of the entry.
+/// clause `numbers` leaves room for the sector numbers of the entry. There are at most fourteen zones to look through.
 pub(crate) fn block_at(zones: &[Zone], k: u64) -> BlockPlan
     requires block { k < length (flat_map entries_of zones.now) }
     requires numbers { All IsInRange zones.now }
