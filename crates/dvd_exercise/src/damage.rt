@@ -2,7 +2,9 @@
 //! more than the bound of two-pass decoding allows, so that reading has to give the block back. In each function the
 //! order of the draws is part of its contract, since the same seed has to damage the same bytes. The stage is Fetched,
 //! that of a received block without answers, and stays so. In clauses `IsChanged` says that so many places of a list
-//! have new values, and all others stay; `HasErrors` that a row has the single errors that are drawn from a state.
+//! have new values, and all others stay; its first argument is the value of a place beyond the end, which no place here
+//! is. `HasErrors` says that a row has the single errors that are drawn from a state, `KeepsFound` that answers,
+//! columns and sectors stay, and `KeepsRest` that these and the stage do.
 ghost use Rattle.std.specs.Prelude.{◌≡◌, ℕ, ◌+◌, ◌*◌, ◌<◌, ◌≤◌, true, false, [], length, replicate, slice_set, bit_xor};
 ghost use Rattle.coding.specs.Product.{line, place};
 ghost use Rattle.dvd_capture.specs.Kept.{KeepsFound};
@@ -70,6 +72,7 @@ impl Plan {
         let bad = rand.word() % 9;
         let lost = rand.word() % (17 - 2 * bad);
         let start = rand.word() % 208;
+        // Each is below its divisor, so that the casts cut nothing.
         Plan {
             bad: bad as usize,
             lost: lost as usize,
@@ -89,7 +92,8 @@ impl Plan {
         (self.start + 5 * turn) % 208
     }
 
-    // Whether a row is bad or lost. The prover unfolds `is_hit`, which is defined by the same search.
+    // Whether a row is bad or lost. No list of these rows is kept: at most sixteen numbers are tried. The prover
+    // unfolds `is_hit`, which is defined by the same search.
     #[tactic(auto, unfolding(crate::specs::Damage::is_hit))]
     fn hits(&self, row: usize) -> bool
         ensures { result ≡ is_hit self.now.start (self.now.bad + self.now.lost) row }
@@ -131,7 +135,8 @@ fn combine_row(rand: &mut Rand, work: &mut Work, i: usize)
     }
 }
 
-// Sets all bytes of a row to 0 and marks them. Nothing is drawn for a lost row.
+// Sets all bytes of a row to 0 and marks them. If the bytes stayed, reading that passes over marks would find them
+// right. Nothing is drawn for a lost row.
 fn lose_row(work: &mut Work, i: usize)
     requires stage { stage_of work.old ≡ Fetched }
     requires row { i < 208 }
@@ -145,7 +150,8 @@ fn lose_row(work: &mut Work, i: usize)
 }
 
 // Sets up to 5 bytes of a row to their exclusive or with drawn ones, made odd so that none is 0. 31 and 182 have no
-// factor in common, so that no place comes twice. Any such step would do; 31 spreads five over the whole row.
+// factor in common, so that no place comes twice. Any such step would do; 31 spreads five over the whole row. The first
+// place is drawn even where the number is 0: two words are drawn for each row, and then one for each error.
 fn hurt_row(rand: &mut Rand, work: &mut Work, i: usize)
     requires stage { stage_of work.old ≡ Fetched }
     requires row { i < 208 }
@@ -177,7 +183,8 @@ fn combine_rows(plan: &Plan, rand: &mut Rand, work: &mut Work)
     }
 }
 
-// Loses the rows that follow the bad ones in the order of `Plan::row`. It draws nothing.
+// Loses the rows that follow the bad ones in the order of `Plan::row`. It draws nothing. They are counted from 0, as in
+// `IsChanged`, and so `plan.bad` is added.
 fn lose_rows(plan: &Plan, work: &mut Work)
     requires stage { stage_of work.old ≡ Fetched }
     ensures received { IsChanged [] plan.now.lost (λ t. damaged_row plan.now.start (plan.now.bad + t)) (λ t. replicate 182 0) (rows_of work.old) (rows_of work.new) }
@@ -189,7 +196,8 @@ fn lose_rows(plan: &Plan, work: &mut Work)
     }
 }
 
-// Damages each row that is neither bad nor lost, in order: each draws on from where the row before it ended.
+// Damages each row that is neither bad nor lost, in order: each draws on from where the row before it ended. A bad or
+// lost row draws nothing here, which `row_state` says too.
 fn hurt_others(plan: &Plan, rand: &mut Rand, work: &mut Work)
     requires stage { stage_of work.old ≡ Fetched }
     ensures hit { (row : ℕ) → row < 208 → is_hit plan.now.start (plan.now.bad + plan.now.lost) row ≡ true → line (rows_of work.new) row ≡ line (rows_of work.old) row }

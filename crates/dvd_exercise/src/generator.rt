@@ -14,6 +14,7 @@ pub struct Rand {
 
 impl Rand {
     /// A generator whose state is `seed` + 1. Without the 1 seed 0 would make state 0, from which only zeros are drawn.
+    /// A seed has the 32 bits of the option `--seed`, so the sum fits.
     pub fn new(seed: u32) -> Rand
         ensures { state_of result ≡ seed + 1 }
     {
@@ -28,7 +29,8 @@ impl Rand {
         ensures word { result ≡ step (state_of self.old) }
         ensures state { state_of self.new ≡ step (state_of self.old) }
     {
-        // The three shifts are one of the known triples by which a state comes again only after all states but 0.
+        // The three shifts are one of the known triples by which a state comes again only after all states but 0. Their
+        // numbers and their order are those of the definition, and bits that leave the 64 are dropped.
         self.state ^= self.state << 13;
         self.state ^= self.state >> 7;
         self.state ^= self.state << 17;
@@ -52,7 +54,8 @@ pub fn fill_piece(rand: &mut Rand, piece: &mut Piece)
     fill(rand, piece.bytes_mut());
 }
 
-// Draws all bytes of a buffer in order, a word for each. Its clauses are of any length; a piece is one of 32,768.
+// Draws all bytes of a buffer in order. A word is drawn for each, though it has eight bytes: so byte k depends on the
+// state after k + 1 words, which is its definition. It is apart from `fill_piece`, as its clauses are of any length.
 fn fill(rand: &mut Rand, bytes: &mut [u8])
     ensures bytes { bytes.new ≡ bytes_from (state_of rand.old) (length bytes.old) }
     ensures state { state_of rand.new ≡ state_after (state_of rand.old) (length bytes.old) }
