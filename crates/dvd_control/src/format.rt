@@ -80,6 +80,7 @@ impl PhysicalFormat {
     /// The physical format in the lead-in of this layer of a disk. Layer 1 has a lead-in on the parallel path alone. A
     /// disk with two layers has longer channel bits: 0.147 micrometres. What a layout doesn't state is the same on each
     /// disk that is made: the version, the rate, embossed data, tracks 0.74 micrometres apart, no burst cutting area.
+    /// Nothing is decided by these; `info` prints them.
     #[tactic(auto, unfolding(crate::specs::Format::fields_for))]
     pub fn of_layout(layout: &Layout, layer: u8) -> PhysicalFormat
         requires { HasLeadIn layout.now.shape layer }
@@ -102,7 +103,8 @@ impl PhysicalFormat {
         }
     }
 
-    /// Writes the sector of this format: 17 bytes, and then zeros.
+    /// Writes the sector of this format: 17 bytes, and then zeros. It is written where the caller has
+    /// the Main Data of a frame, without a copy.
     #[tactic(auto, unfolding(crate::specs::Format::format_bytes))]
     pub fn to_bytes(&self, out: &mut [u8; 2048])
         ensures { out.new ≡ format_bytes (fields_of self.now) }
@@ -112,11 +114,13 @@ impl PhysicalFormat {
     }
 
     // Its 17 bytes. Before each sector number, three bytes, comes one that is 0. The upper halves of bytes 0 and 1 are
-    // 0: a read-only disk, of 120 mm.
+    // 0: a read-only disk, of 120 mm. The parts of a byte have bits of their own, since the ghost fields bound them: so
+    // a sum puts them together, as in the definition.
     fn head(&self) -> [u8; 17]
         ensures { result ≡ head_bytes (fields_of self.now) }
     {
-        // Byte 2 has the number of layers in bits 6 and 5, the track path in bit 4, and the kind below.
+        // Byte 2 has one less than the number of layers in bits 6 and 5, the track path in bit 4, and the kind below.
+        // In the names of bytes 2 is the most significant.
         let layers = if self.two_layers { 32 } else { 0 };
         let path = if self.opposite { 16 } else { 0 };
         let [first2, first1, first0] = three_bytes(self.first);
@@ -152,14 +156,16 @@ impl PhysicalFormat {
         ensures valid { IfOk result (λ format. control_fault bytes.now ≡ None) }
         ensures fields { IfOk result (λ format. fields_of format ≡ fields_in bytes.now) }
     {
-        // The upper four bits of byte 0 are the category, and those of byte 1 the size; both have to be 0. The rules
-        // are tried in the order of the bytes, and faults have whole bytes as they were read.
+        // The upper four bits of byte 0 are the category, and those of byte 1 the size; both have to be 0. So after
+        // their tests these bytes are the version and the rate. The rules are tried in the order of the bytes, and
+        // faults have whole bytes as they were read. `head` says what the bits of a byte are.
         if bytes[0] > 15 {
             return Err(ControlFault::Category { byte: bytes[0] });
         }
         if bytes[1] > 15 {
             return Err(ControlFault::Size { byte: bytes[1] });
         }
+        // One less than the number of layers.
         let layers = bytes[2] / 32 % 4;
         if layers > 1 {
             return Err(ControlFault::Layers { byte: bytes[2] });
@@ -185,10 +191,10 @@ impl PhysicalFormat {
     }
 }
 
-// The version of the format that `of_layout` names.
+// The version of the format that `of_layout` names, the first one.
 const VERSION: u8 = 1;
 
-// The number of the maximum rate 10.08 Mbit/s.
+// The number of the maximum rate 10.08 Mbit/s, the highest of the three that have numbers here.
 const RATE_10_08: u8 = 2;
 
 // The kind of a layer of embossed data.

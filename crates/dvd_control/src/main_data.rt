@@ -14,6 +14,7 @@ const REFERENCE: u8 = 0xAC;
 /// data. Control data have the physical format of the entry's layer in frame 0 of each block, and zeros in the others:
 /// the standard keeps those for the disk's maker and the content's provider.
 /// It has to be an entry of this layout's plan: then a layer with control data has a lead-in, which a format is of.
+/// Whatever `out` had is overwritten, and it isn't scrambled yet: `rule_of` of dvd_layout says what will be.
 pub fn main_of(layout: &Layout, plan: &BlockPlan, f: usize, out: &mut [u8; 2048])
     requires frame { f < 16 }
     requires entry { IsEntry layout.now plan.now }

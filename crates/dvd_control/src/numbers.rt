@@ -8,7 +8,8 @@ use byteorder::{BigEndian, ByteOrder};
 use dvd_layout::{DATA_FIRST, Layout, Shape};
 
 // The last of `sectors` data sectors, which fill whole ECC blocks from `first` on. Zero sectors fill the last block, so
-// the Data Zone ends with it. `first` isn't 0, so that one less than the end is a number even for no sectors.
+// the Data Zone ends with it. `first` isn't 0, so that one less than the end is a number even for no sectors. The
+// blocks are counted here, since `blocks_of` of dvd_layout isn't public.
 fn last_from(first: u32, sectors: u32) -> u32
     requires begins { 0 < first }
     requires ends { first + padded sectors ≤ 2 ^ 24 }
@@ -17,7 +18,8 @@ fn last_from(first: u32, sectors: u32) -> u32
     first + 16 * sectors.div_ceil(16) - 1
 }
 
-// The last sector of the data of layer 0. The opposite path needs it by itself too.
+// The last sector of the data of layer 0. On the opposite path the format states it by itself too, so `of_layout` calls
+// it. Nothing is required, since the ghost fields of a layout bound its ends.
 pub(crate) fn last_of_layer_0(layout: &Layout) -> u32
     ensures { result ≡ data_first + padded layout.now.sectors0 - 1 }
 {
@@ -43,7 +45,7 @@ pub(crate) fn last_of(layout: &Layout, layer: u8) -> u32
     }
 }
 
-// A sector number, the most significant byte first.
+// A sector number, the most significant byte first as in the format's sector.
 pub(crate) fn three_bytes(number: u32) -> [u8; 3]
     requires { number < 2 ^ 24 }
     ensures { result ≡ three_bytes number }
@@ -53,7 +55,8 @@ pub(crate) fn three_bytes(number: u32) -> [u8; 3]
     bytes
 }
 
-// The sector number in three bytes from place `i` on, the most significant byte first.
+// The sector number in three bytes from place `i` on, the most significant byte first. The last of them is byte 2047 at
+// most.
 pub(crate) fn number_at(bytes: &[u8; 2048], i: usize) -> u32
     requires { i ≤ 2045 }
     ensures value { result ≡ number_at bytes.now i }
