@@ -17,7 +17,8 @@ pub enum WordsFault {
     NoMemory,
 }
 
-// For `?` where an allocation fails. `from_gives` says to the prover what comes of it.
+// For `?` where an allocation fails: an `AllocError` says nothing more than that. `from_gives` says to the prover what
+// comes of it.
 impl From<AllocError> for WordsFault {
     ghost from_gives = { λ _ fault. fault ≡ NoMemory };
 

@@ -28,10 +28,10 @@ pub fn parse<'a>(
     parse_by(parser_for(alloc, command)?, words)
 }
 
-/// What a parser makes of some arguments. `NoMemory` comes only where there is no memory to read them with. No clause
-/// says so, since a contract doesn't see how much memory there is. `dvdcap` reads its arguments by this too.
-/// `is_simple_and_free` says that the parser uses only what the definitions of clap cover, and that no option has a
-/// rule on another: of such a parser it is proved what it finds.
+/// What a parser makes of some arguments, the first of which names the command. `NoMemory` comes only where there is no
+/// memory to read them with. No clause says so, since a contract doesn't see how much memory there is. `dvdcap` reads
+/// its arguments by this too. `is_simple_and_free` says that the parser uses only what the definitions of clap cover,
+/// and that no option has a rule on another: of such a parser it is proved what it finds.
 pub fn parse_by<'a>(
     parser: clap::Command<'a>,
     words: &'a [String],
@@ -58,7 +58,7 @@ fn parser_for<'a>(alloc: Global, command: Command) -> Result<clap::Command<'a>, 
     with_options(alloc, parser, spec.options)
 }
 
-// The command with these options added, each with one value.
+// The command with these options added in order, each with one value.
 fn with_options<'a>(
     alloc: Global,
     parser: clap::Command<'a>,
@@ -74,8 +74,9 @@ fn with_options<'a>(
     Ok(parser)
 }
 
-/// The command with one more option, which has one value. `Set` refuses one that is given twice: a second value would
-/// have to win or lose. `dvdcap` makes its options by this too.
+/// The command with one more option, which has one value. Its name is what is written after the two dashes, and what
+/// its value is found by. `Set` refuses one that is given twice: a second value would have to win or lose. `dvdcap`
+/// makes its options by this too.
 pub fn with_option<'a>(
     alloc: Global,
     parser: clap::Command<'a>,

@@ -44,13 +44,14 @@ pub struct CommandSpec<'a> {
     pub name: &'a str,
     /// What it goes over.
     pub unit: Unit,
-    /// Whether it reads listed captures.
+    /// Whether it reads listed captures. A command may have the option `form` and not the value `listed` of it.
     pub takes_listed: bool,
-    /// Whether it needs a number of sectors or a listed capture, which states it.
+    /// Whether it needs a number of sectors or a listed capture, which states it. `info` reads listed captures and
+    /// needs neither. Where this is false, clap asks for `sectors` if the command needs it.
     pub sectors_or_listed: bool,
     /// The limit of its numbers, by what they make together.
     pub limit: Limit,
-    /// Its options, in the order in which clap gets them.
+    /// Its options, in the order in which clap gets them, which is that of the definition.
     pub options: &'a [OptionSpec<'a>],
 }
 
@@ -90,7 +91,8 @@ pub enum Limit {
     WholeDisk,
 }
 
-// A row in one line, as in specs/Table.antt, so that both can be compared by eye.
+// A row in one line, as in specs/Table.antt, so that both can be compared by eye. It makes the array of the rows. The
+// word of a command and the name of an option are what is written here, as a text (`stringify!`).
 macro_rules! rows {
     ($(
         $command:ident $name:ident $unit:ident $takes_listed:literal $sectors_or_listed:literal $limit:ident
@@ -132,11 +134,10 @@ static COMMANDS: [CommandSpec<'static>; 12] = rows! {
     Convert  convert  Block  false false Any       must [sectors] may [sectors1 shape zones initial tail form];
 };
 
-/// The row of a command: the rows are in the order of `Command`. `free` is of the same row as clap is given it by
-/// `parser_for` (its definition is `app_for`): clap's rules for it are simple, and none depends on another option,
-/// which
-/// `parse_by` requires. It is a clause here since it is proved by computing each row where the table is: so a new
-/// command needs no proof of it.
+/// The row of a command. The number of a variant is the place of its row, so no search is needed. `free` is of the same
+/// row as clap is given it by `parser_for` (its definition is `app_for`): clap's rules for it are simple, and none
+/// depends on another option, which `parse_by` requires. It is a clause here since it is proved by computing each row
+/// where the table is: so a new command needs no proof of it.
 pub fn spec_of<'a>(command: Command) -> &'a CommandSpec<'a>
     ensures row { entry result.now ≡ command_entry command }
     ensures free { is_simple_and_free (app_for command) ≡ true }
@@ -151,15 +152,16 @@ pub fn unit_of(command: Command) -> Unit
     spec_of(command).unit
 }
 
-/// The command that a word names, if one does. Capitals count, and no short form of a name is read.
+/// The command that a word names, if one does. Capitals count, and no short form of a name is read. It is asked before
+/// clap is called, since each command has a clap command of its own.
 pub fn command_named(word: &str) -> Option<Command>
     ensures { result ≡ command_of word.now }
 {
     find_named(&COMMANDS, word)
 }
 
-// The command of the first row with this name. The rows are few enough to look through. They are a parameter, since a
-// contract can't name the constant that holds them.
+// The command of the first row with this name. The rows are few enough to look through, in their order, as `named_in`
+// does. They are a parameter, since a contract can't name the constant that holds them.
 fn find_named(specs: &[CommandSpec<'_>], word: &str) -> Option<Command>
     ensures { result ≡ named_in word.now specs.now }
 {

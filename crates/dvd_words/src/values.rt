@@ -23,7 +23,7 @@ pub fn read_number(text: Option<&str>, default: u32) -> Option<u32>
 }
 
 // `from_str_radix` reads a sign too, and any number of leading zeros, so the text is tested first. Ten digits write
-// each number below 2^32.
+// each number below 2^32; it refuses the texts of ten digits that are above.
 fn number(text: &str) -> Option<u32>
     ensures { result ≡ number_in text.now }
 {
@@ -70,7 +70,8 @@ pub fn read_workers(text: Option<&str>) -> Option<u8>
 }
 
 /// A sector number of six hexadecimal digits, or 0 where there is no text. `None`: another text. It has 24 bits, and so
-/// three bytes, which are read as bytes are: exactly two digits each, of either case.
+/// three bytes, which are read as bytes are: exactly two digits each, of either case. The most significant comes first.
+/// A command with this option requires it, so 0 is that of the others.
 pub fn read_sector_number(text: Option<&str>) -> Option<u32>
     ensures { result ≡ value_or 0 sector_number_of (option_map (λ s. s.now) text.entry) }
 {

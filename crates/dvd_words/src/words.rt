@@ -38,7 +38,8 @@ pub fn read(alloc: Global, words: &[String]) -> Result<Settings, WordsFault>
 
 // Each option by its form. All options are read whatever the command is: one that it doesn't have wasn't accepted by
 // clap, and so has its default. So a default may be out of the range of the option: 0 blocks or captures are those of a
-// command that has none. The default of 16 blocks of tail, and the most blocks and captures, are choices.
+// command that has none. The default of 16 blocks of tail, and the most blocks and captures, are choices. Of frames any
+// number but 0 may come, up to the last of 32 bits.
 #[tactic(auto, unfolding(crate::specs::Reading::settings_of))]
 fn settings(command: Command, matches: &ArgMatches<'_>) -> Option<Settings>
     ensures value { result ≡ settings_of command (rows_of (found_of matches.now)) }
@@ -70,6 +71,8 @@ fn settings(command: Command, matches: &ArgMatches<'_>) -> Option<Settings>
 }
 
 // The layout is stated once: a listed capture states its own, and then no option may; else the arguments state it.
+// Where clap requires `sectors`, or a command has no such option, `sectors_or_listed` is false, and nothing is asked
+// here.
 fn has_layout(command: Command, form: Form, matches: &ArgMatches<'_>) -> bool
     ensures { result ≡ has_layout command form (rows_of (found_of matches.now)) }
 {
@@ -80,7 +83,8 @@ fn has_layout(command: Command, form: Form, matches: &ArgMatches<'_>) -> bool
     }
 }
 
-// Whether an option states the layout or a part of it. A value that is also the default counts, as it was written.
+// Whether an option states the layout or a part of it: these six are what the header of a listed capture states. A
+// value that is also the default counts, as it was written.
 fn states_layout(matches: &ArgMatches<'_>) -> bool
     ensures { result ≡ states_layout (rows_of (found_of matches.now)) }
 {
