@@ -18,7 +18,8 @@ pub use dvd_commands::laws::{
 };
 
 /// Two outcomes of the same settings and the same input, neither ended by a fault, have the same output, report and
-/// end, and read the same, except for how much is read of a block that breaks a rule of its form.
+/// end, and read the same, except for how much is read of a block that breaks a rule of its form: the form leaves that
+/// open.
 pub fn what_is_done_is_determined()
     ensures { WhatIsDoneIsDetermined }
 {}
@@ -49,8 +50,9 @@ pub fn loops_keep_the_bound()
     ensures { LoopsKeepTheBound }
 {}
 
-/// A loop of `recover` gives each image sector of the blocks that two passes refuse, in the same sense, if its frame
-/// has twelve good rows: in each twice the errors plus the marks is at most 10. Whatever ended the loop.
+/// A loop of `recover`, whatever ended it, gives of a block that two passes refuse the mastered sector of each frame
+/// with twelve good rows: compared with the mastered block, twice the errors plus the marks of each is at most 10.
+/// Where a write failed, what was written of such a sector is a prefix of it.
 pub fn good_frames_are_kept()
     ensures { GoodFramesAreKept }
 {}

@@ -51,7 +51,8 @@ pub fn closing_line(command: Command, end: LoopEnd) -> Line
     line
 }
 
-// What a unit is called in a closing line. `short` shows that a line with it fits its 256 bytes.
+// What a unit is called in a closing line, in the singular: a count of them adds an s. `short` shows that a line with
+// it fits its 256 bytes.
 fn name_of(unit: Unit) -> &'static [u8]
     ensures name { result.now ≡ unit_name unit }
     ensures short { length result.now ≤ 6 }

@@ -16,6 +16,7 @@ use std::thread::Threads;
 
 /// Does what the arguments ask for: reads `src`, writes to `out`, and writes lines to `report`. The last line names how
 /// the run ended. Each worker asks the gate before its pieces; nothing that is read, written or reported depends on it.
+/// It is there for tests, which see by it that pieces are done at once; in programs nobody waits at it.
 /// The contract says which bytes an input, an output or a report has where these are known.
 /// `main` and the tests each have a runtime of their own, so it is a parameter: it makes the threads of the workers.
 pub fn run<R: Threads + Sync, S: Source, K: Sink, E: Sink, G: Gate>(
@@ -50,8 +51,8 @@ pub fn run<R: Threads + Sync, S: Source, K: Sink, E: Sink, G: Gate>(
     }
 }
 
-// The line of a run that doesn't begin, and its status, which is `ReportFault` where the line can't be written. Neither
-// input nor output is touched.
+// Writes the line of a run that doesn't begin, and returns its status, or `ReportFault` where the line can't be
+// written. Neither input nor output is touched. `close` of dvd_loop isn't for it, since no loop has ended.
 fn refuse<E: Sink>(status: Status, line: &[u8], report: &mut E) -> Status
     ensures { Reports status line.now (E.seen report.old) (E.seen report.new) result }
 {
