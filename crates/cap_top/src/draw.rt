@@ -16,7 +16,8 @@ use std::alloc::Global;
 /// Reads a survey from `src` to its end, and writes its picture to `out`. The report gets one line, which says how the
 /// run ended. All memory is allocated before the first byte of the survey is read. Nothing is written where a read
 /// fails or a line breaks a rule. The equations in the clause are handed to the definition, which states them where a
-/// stream isn't touched.
+/// stream isn't touched. `least` and `most` are what `draw` requires, and what settings have that were read of
+/// arguments.
 pub fn run_draw<S: Source, K: Sink, E: Sink>(
     alloc: Global,
     settings: &DrawSettings,

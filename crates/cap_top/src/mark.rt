@@ -36,7 +36,8 @@ pub fn run_mark<M: Source, S: Source, K: Sink, E: Sink>(
     match open_map(alloc, settings.good.as_bytes(), map) {
         Ok(spans) => {
             let end = mark_loop(&spans, src, out);
-            // `close` writes the line as `end_with` does; its clauses go on from those of the loop.
+            // `close` writes the line as `end_with` does; its clauses go on from those of the loop. It returns the end,
+            // or `ReportFault` where the line failed, so the status is that of what it returns.
             status_of(close(end, closing_line(end).as_slice(), report))
         }
         Err(refusal) => end_with(refusal_end(refusal), report),

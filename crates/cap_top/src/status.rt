@@ -28,7 +28,7 @@ pub enum Status {
 impl Status {
     ghost use Rattle.cap_top.specs.Statuses.{status_number};
 
-    /// The number that the program ends with.
+    /// The number that the program ends with. It is that of the variant above, so there is no second list of numbers.
     pub fn number(self) -> u8
         ensures { result ≡ status_number self }
     {

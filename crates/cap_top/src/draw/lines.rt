@@ -24,8 +24,8 @@ pub fn draw_end(end: DrawEnd) -> RunEnd
     }
 }
 
-// The end of a survey that is cut: in which line, and how many bytes of that came. It has a status of its own, though
-// the picture is written whole.
+// The end of a survey that is cut: in which line, counted from 1, and how many bytes of that came. It has a status of
+// its own, though the picture is written whole.
 fn short_end(number: u64, bytes: u64) -> RunEnd
     ensures status { result.status ≡ Status.Short }
     ensures line { result.line ≡ draw_line (Short number bytes) }
@@ -40,7 +40,8 @@ fn short_end(number: u64, bytes: u64) -> RunEnd
     }
 }
 
-// The word of a rule. These are texts of this report; the names of `SurveyCause` may be longer.
+// The words of a rule. They are this report's own, since `SurveyCause` displays longer texts. `short` is what
+// `rule_end` asks for, with room to spare.
 fn rule_text(cause: SurveyCause) -> &'static [u8]
     ensures text { result.now ≡ rule_text cause }
     ensures short { length result.now ≤ 8 }

@@ -14,6 +14,7 @@ pub fn interleave_end(end: InterleaveEnd) -> RunEnd
     ensures status { result.status ≡ status_of end }
     ensures line { result.line ≡ closing_line end }
 {
+    // Ends with numbers fill `line`; the others return, as their line is a fixed text.
     let mut line = Line::new();
     let status = match end {
         InterleaveEnd::Done => return fixed_end(Status::Done, b"done\n"),

@@ -11,7 +11,7 @@ use dvd_layout::LayoutFault;
 use dvd_ports::WriteFault;
 use dvd_report::setting_line;
 
-/// The end of a run whose settings give no layout.
+/// The end of a run whose settings give no layout. Its line is the one that `dvdecc` writes for such a layout.
 pub fn setting_end(fault: LayoutFault) -> RunEnd
     ensures status { result.status ≡ Status.BadInput }
     ensures line { result.line ≡ setting_line fault }

@@ -18,7 +18,8 @@ pub enum MapRefusal {
 }
 
 /// Reads a map in which these statuses are trusted, to its end. No span is used before the last line was read, since
-/// one that breaks a rule ends the run.
+/// one that breaks a rule ends the run. A `MapFault` is of a text, so it has no failed read: it becomes a `MapRefusal`,
+/// which has one.
 pub fn open_map<M: Source>(alloc: Global, good: &[u8], map: &mut M) -> Result<Vec<Span>, MapRefusal>
     ensures opened { IfOk result (λ spans. OpensMap good.now (M.seen map.old) (M.seen map.new) spans.items) }
     ensures refused { IfErr result (IsMapRefused good.now (M.seen map.old) (M.seen map.new)) }
@@ -31,7 +32,8 @@ pub fn open_map<M: Source>(alloc: Global, good: &[u8], map: &mut M) -> Result<Ve
     }
 }
 
-// Reads the text of a map by pieces. Its length isn't known before, so the text grows. A map without end comes to
+// Reads the text of a map by pieces, up to a read that gives no byte: that is its end, after which none is asked for.
+// Its length isn't known before, so the text grows, and `read_whole` isn't of use. A map without end comes to
 // `NoMemory`. The length of a piece has no part in the result.
 fn read_text<M: Source>(alloc: Global, map: &mut M) -> Result<Vec<u8>, MapRefusal>
     ensures read { IfOk result (λ text. TextIs (M.seen map.old) (M.seen map.new) text.items) }
