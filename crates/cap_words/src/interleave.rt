@@ -27,7 +27,7 @@ pub fn interleave_settings<'a>(matches: &ArgMatches<'a>) -> Option<InterleaveSet
 }
 
 // The form that is named, whose blocks all have the same number of bytes. A listed capture begins with a header, and
-// isn't cut into blocks of one size.
+// isn't cut into blocks of one size. clap requires `--form`, so the default of `read_form` doesn't come.
 fn form_in(text: Option<&str>) -> Option<Form>
     ensures { result ≡ form_in (option_map (λ s. s.now) text.entry) }
 {
@@ -44,7 +44,8 @@ fn may_fill(form: Form, fill: bool) -> bool
     form == Form::Marked || !fill
 }
 
-// clap gives each flag a value, which is a text like others: `true` where the flag is given.
+// clap gives each flag a value, which is a text like others: `true` where the flag is given. Its own `get_flag`
+// promises nothing of other texts, and the clause here is of all matches.
 fn is_flag_given(matches: &ArgMatches<'_>, name: &str) -> bool
     ensures { result ≡ is_flag_given name.now (rows_of (found_of matches.now)) }
 {
@@ -58,14 +59,14 @@ fn files_in<'a>(matches: &ArgMatches<'a>) -> Option<ArrayVec<&'a str, 16>>
     few_files(given_files(matches)?)
 }
 
-// The files, if one is given.
+// The files, if one is given. The list is clap's; the texts in it borrow from the arguments, not from the matches.
 fn given_files<'m, 'a>(matches: &'m ArgMatches<'a>) -> Option<&'m [&'a str]>
     ensures { option_map (λ files. map (λ file. file.now) files.now) result ≡ all_of (codes "file") (rows_of (found_of matches.now)) }
 {
     matches.get_strs("file")
 }
 
-// `merge` joins from 2 to 16 captures.
+// From 2 to 16 names, copied into an array: `merge`, for which the blocks are put in turn, joins so many captures.
 fn few_files<'a>(names: &[&'a str]) -> Option<ArrayVec<&'a str, 16>>
     ensures { option_map (λ files. map (λ file. file.now) files.items) result ≡ few_files (map (λ name. name.now) names.now) }
 {

@@ -9,7 +9,8 @@ use crate::settings::LostSettings;
 use clap::ArgMatches;
 use dvd_words::{given, read_number, read_shape, read_zones};
 
-/// Each option by its form. The defaults are those of `dvdecc`. Whether the numbers make a layout is asked later, by
+/// Each option by its form. The defaults are those of `dvdecc`; clap requires `sectors`, so its default doesn't come.
+/// `None` is a value that isn't of its form: a usage error. Whether the numbers make a layout is asked later, by
 /// `LostSettings::layout`, since that has a line and a status of its own.
 #[tactic(auto, unfolding(crate::specs::Lost::lost_of))]
 pub fn lost_settings(matches: &ArgMatches<'_>) -> Option<LostSettings>

@@ -19,7 +19,7 @@ pub fn mark_settings<'a>(matches: &ArgMatches<'a>) -> Option<MarkSettings<'a>>
 }
 
 // The statuses that are trusted: those that are given, each of which a block can have, or `+` alone. A missing mark
-// costs more than one too many.
+// costs more than one too many, since an error costs a row twice what an erasure does.
 fn good_in<'a>(text: Option<&'a str>) -> Option<&'a str>
     ensures { option_map (λ s. s.now) result ≡ good_in (option_map (λ s. s.now) text.entry) }
 {
@@ -30,7 +30,8 @@ fn good_in<'a>(text: Option<&'a str>) -> Option<&'a str>
     }
 }
 
-// Some statuses, each that of a block. One that is given twice does no harm.
+// Some statuses, each that of a block. One that is given twice does no harm. An empty text would trust no byte at all,
+// so it is refused.
 fn is_good(text: &[u8]) -> bool
     ensures { result ≡ is_good text.now }
 {

@@ -56,7 +56,8 @@ fn with_options<'a>(
     Ok(parser)
 }
 
-// The command with one more option, which has no value. clap refuses a flag that is given twice, or with a value.
+// The command with one more option, which has no value. clap refuses a flag that is given twice, or with a value. It is
+// here, and not in dvd_words, since no command of `dvdecc` has a flag.
 fn with_flag<'a>(
     alloc: Global,
     parser: clap::Command<'a>,
@@ -68,7 +69,8 @@ fn with_flag<'a>(
     parser.arg(flag)
 }
 
-// The command with at least one file: each argument that is neither an option nor the value of one.
+// The command with at least one file: each argument that is neither an option nor the value of one. `Append` keeps all
+// of them, in order. How many may come is asked later, by the module of `interleave`.
 fn with_files<'a>(alloc: Global, parser: clap::Command<'a>) -> Result<clap::Command<'a>, AllocError>
     ensures { IfOk result (λ r. app_of r ≡ with_rule (app_of parser.entry) file_rule) }
 {

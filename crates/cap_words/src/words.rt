@@ -30,7 +30,8 @@ pub fn read<'a>(alloc: Global, words: &'a [String]) -> Result<Settings<'a>, Word
     settings(command, &matches).ok_or(WordsFault::Usage)
 }
 
-// The command of a word, which is the first argument. It is read before clap is called, which reads its options alone.
+// The command of a word, which is the first argument, byte by byte: no capitals, and no short form. It is read before
+// clap is called, which reads its options alone.
 fn command_named(word: &str) -> Option<Command>
     ensures { result ≡ command_of word.now }
 {
