@@ -56,7 +56,8 @@ impl Buffers {
         requires few { captures ≤ 16 }
         ensures { IfOk result (λ buffers. buffers ≡ fresh (record { size = block_size form; fill = fill; count = captures })) }
     {
-        // At first `held` says that each capture's last block came whole, so that block 0 is read.
+        // At first `held` says that each capture's last block came whole, so that block 0 is read. The order of the
+        // allocations is free: where one fails, there are no buffers.
         let size = form.size();
         let lost = if fill { Some(lost_block(alloc)?) } else { None };
         Ok(Buffers {
@@ -77,7 +78,8 @@ impl Buffers {
 
     /// Reads a block of capture `c` and adds it to the unit. A capture that has ended isn't read again. The captures
     /// are read in their order, so that those before `c` fill at most `c` blocks of the unit. After a failed read
-    /// nothing is promised of the buffers: the loop ends.
+    /// nothing is promised of the buffers: the loop ends. What `fetch` and `put_block` do is apart from it, since each
+    /// borrows some of the buffers alone.
     pub(crate) fn read<S: Source>(&mut self, c: usize, src: &mut S) -> Result<(), Failed>
         requires capture { c < length self.old.held }
         requires room { length self.old.unit ≤ 42_640 * c }
@@ -114,7 +116,7 @@ impl Buffers {
         }
     }
 
-    /// Writes the unit.
+    /// Writes the unit, the blocks of all captures in their order, as one piece.
     pub(crate) fn write<K: Sink>(&self, out: &mut K) -> Result<(), WriteFault>
         ensures { IsWritten self.now.unit (K.seen out.old) (K.seen out.new) result }
     {
@@ -181,8 +183,8 @@ fn put(unit: &mut Vec<u8>, bytes: &[u8])
 }
 
 // A block in the marked form of which nothing came. It is made once, and copied where it is needed. Only `new` calls
-// it, before anything is read, so it may take memory and fail. `using` is for the checker: two lemmas say what no row
-// is, and what one row more is.
+// it, before anything is read, so it may take memory and fail; a row that finds no memory ends it. `using` is for the
+// checker: two lemmas say what no row is, and what one row more is.
 #[tactic(auto, using(crate::proofs::BlockLemmas::rows_none, crate::proofs::BlockLemmas::rows_more))]
 fn lost_block(alloc: Global) -> Result<Vec<u8>, NoMemory>
     ensures block { IfOk result (λ block. block.items ≡ lost_block) }
@@ -201,7 +203,8 @@ fn put_lost_row(block: &mut Vec<u8>) -> Result<(), AllocError>
     ensures len { OnOk result (vec_len block.new ≡ vec_len block.old + 205) }
 {
     block.extend_from_slice(&[0; 182])?;
-    // A bit for each of the 182 places, and the two spare ones, which are 0.
+    // A bit for each of the 182 places, the first in the top bit of a byte: 22 bytes have 176 of them, and 252 has six
+    // bits set and the two spare ones, which are 0.
     block.extend_from_slice(&[255; 22])?;
     block.push(252)?;
     Ok(())

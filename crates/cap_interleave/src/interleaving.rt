@@ -52,7 +52,8 @@ fn turn<S: Source, K: Sink>(
 }
 
 // Reads the next block of each capture, in their order. A failed read ends it there: the captures after it are as they
-// were, and the unit isn't written. Which blocks are short is asked later, by `check`.
+// were, and the unit isn't written. Which blocks are short is asked later, by `check`. There are at most sixteen, so
+// that `c` fits 32 bits.
 fn read_unit<S: Source>(buffers: &mut Buffers, captures: &mut [S]) -> Result<(), InterleaveEnd>
     requires count { length captures.old ≡ length buffers.old.held }
     requires few { length captures.old ≤ 16 }
