@@ -3,8 +3,8 @@
 //!
 //! The functions here only make streams and hand them on, and what a file or a terminal gives has no definition. So
 //! they have no `ensures` but the one that a call needs, and their clauses `requires` are those of the calls of
-//! cap_top. `StdSource` and `StdSink` count the failed calls of a stream, as those contracts ask. All output goes to
-//! standard output, and all lines to standard error.
+//! cap_top. `StdSource` and `StdSink` count the failed calls of a stream, as those contracts ask. `reader` is standard
+//! input, and `io::writer` makes a writer of standard output. All output goes to that, and all lines to standard error.
 //!
 //! `AreValid` and `IsValid` are what the reading of the arguments promises, as from 2 to 16 files, or a width within
 //! its bounds.
@@ -39,7 +39,8 @@ fn main(rt: HostRuntime) -> ExitCode {
 }
 
 // Each command has streams of its own: `mark` a file and the input, `interleave` several files, the others the input.
-// They are made here, after the arguments are read: only now it is known which are needed.
+// They are made here, after the arguments are read: only now it is known which are needed. The report is made before,
+// and handed on.
 fn run<E: Sink>(rt: &HostRuntime, settings: &Settings<'_>, report: &mut E) -> Status
     requires { AreValid settings.now }
 {
@@ -108,8 +109,8 @@ fn draw<E: Sink>(rt: &HostRuntime, settings: &DrawSettings, report: &mut E) -> S
     run_draw(rt.alloc(), settings, &mut src, &mut out, report)
 }
 
-// A file. One that couldn't be opened can't be read. So a run names it as it names a read that fails, and needs no
-// other way to end.
+// A file, or none where it couldn't be opened: each read of that fails. So a run names it as it names a read that
+// fails, and needs no other way to end.
 #[derive(Drop)]
 struct Opened {
     file: Option<File>,
