@@ -2,10 +2,11 @@
 //! The failed rows are the same in all columns, so what is computed of their places serves all.
 //! The values of a column are those of its polynomial at alpha^0 to alpha^15: its syndromes, all 0 for a codeword
 //! alone. They are found for 32 columns at once, in a vector for each power; column `n` of the 32 has lane `n` of each.
-//! Patches are the bytes to add in the failed rows, found for 32 columns at once: each is tested before it counts.
-//! In clauses, of the columns from `start` on: `AreOwnFrom`, they have the bytes of the rows' answers, and `AreCopied`,
-//! so far those of the rows before one; `AreColumnsFrom`, they are answered; `AreKeptFrom`, they have the bytes of the
-//! rows that didn't fail. `Completes` says that patches not noted as wrong make a column a codeword.
+//! Patches are the bytes to add in the failed rows, found for 32 columns at once: each is tested before it counts. A
+//! lane of `any_of` is 0 exactly where that lane of each vector is: so one vector says which of 32 columns are
+//! codewords. In clauses, of the columns from `start` on: `AreOwnFrom`, they have the bytes of the rows' answers, and
+//! `AreCopied`, so far those of the rows before one; `AreColumnsFrom`, they are answered; `AreKeptFrom`, they have the
+//! bytes of the rows that didn't fail. `Completes` says that patches not noted as wrong make a column a codeword.
 ghost use Rattle.std.specs.Prelude.{◌≡◌, ℕ, ◌+◌, ◌<◌, ◌≤◌, List, IsTrue, true, false, length, map, slice_index, slice_index_or, position, not, MatchOption};
 ghost use Rattle.coding.specs.Field.{alpha, power};
 ghost use Rattle.coding.specs.Words.{IsCodeword, value};
@@ -30,7 +31,9 @@ use rs_lanes::{any_of, column_values, load, load_transposed, store, transposed_v
 use std::simd::prelude::*;
 
 /// Answers the columns from `start` on, one for each place of a piece of the columns. Answers whether they correct no
-/// row that was answered.
+/// row that was answered; `false` claims nothing, and comes too where a column has no answer. Several workers have a
+/// piece each; one alone has all columns. The code is made once by the caller, since its generator polynomial is
+/// computed.
 pub fn answer_columns(
     code: &Po,
     answers: &[AnswerRow],
@@ -45,8 +48,9 @@ pub fn answer_columns(
     ensures kept { IsTrue result → AreKeptFrom answers.now start piece.new }
 {
     copy_columns(answers, start, piece);
-    // Callers ask `are_few` before. The test is here again because the clauses hold of any number of failed rows: with
-    // more than sixteen no column has a codeword near it.
+    // Callers ask `are_few` before, so that no column is copied in vain. The test is here again because the clauses
+    // hold of any number of failed rows: with more than sixteen no column has a codeword near it. `shared` computes
+    // once what all columns need of the failed rows' places.
     match Erasures::shared(failed, usize::from(MOST_FAILED)) {
         Some(erasures) => answer_copied(code, answers, &erasures, start, piece),
         None => {
@@ -56,7 +60,7 @@ pub fn answer_columns(
     }
 }
 
-// Writes columns of the rows' bytes, of failed rows too: sixteen at a time, so that their bytes lie near each other.
+// Writes columns of the rows' bytes, of failed rows too: sixteen at a time, the lanes of a vector that squares have.
 // A failed row is marked, so its bytes don't count and needn't be set to 0: all columns are copied alike.
 fn copy_columns(answers: &[AnswerRow], start: usize, piece: &mut [ColumnAnswer])
     requires rows { length answers.now ≡ 208 }
@@ -71,7 +75,7 @@ fn copy_columns(answers: &[AnswerRow], start: usize, piece: &mut [ColumnAnswer])
 }
 
 // Writes at most sixteen columns. Where there are sixteen, their number is a constant: squares of their bytes stay in
-// registers.
+// registers. There are fewer at the end of a piece alone.
 fn copy_tile(answers: &[AnswerRow], start: usize, piece: &mut [ColumnAnswer])
     requires rows { length answers.now ≡ 208 }
     requires few { length piece.old ≤ 16 }
@@ -102,7 +106,8 @@ fn copy_few(answers: &[AnswerRow], start: usize, piece: &mut [ColumnAnswer])
     copy_rows(answers, 176, start, piece);
 }
 
-// Writes into each of at most sixteen columns the bytes of the 32 rows' answers from `top` on.
+// Writes into each of at most sixteen columns the bytes of the 32 rows' answers from `top` on. `wide` says what the
+// type does: the prover doesn't know the length of an array in a list.
 fn copy_rows(answers: &[AnswerRow], top: usize, start: usize, piece: &mut [ColumnAnswer])
     requires rows { length answers.now ≡ 208 }
     requires top { top + 32 ≤ 208 }
@@ -197,7 +202,8 @@ fn answer_group(
     let mut are_kept = true;
     for (k, column) in piece.iter_mut().enumerate() {
         let n = start - left + k;
-        // What is proposed is tested. Where it isn't right, the column is as it was, and is decoded by itself.
+        // What is proposed is tested. Where it isn't right, the column is as it was, and is decoded by itself: only
+        // then are its syndromes listed.
         let is_kept = fill_column(erasures, &patches, n, wrong[n], column)
             || decode_column(code, erasures, lane_of(&values, n), column);
         are_kept = are_kept && is_kept;
@@ -206,7 +212,8 @@ fn answer_group(
 }
 
 // What 32 columns with these values lack in the failed rows. Nothing is proposed where all are codewords, whose lanes
-// of `wrong` are zeros.
+// of `wrong` are zeros. Where a column is wrong though no row failed, the patches have no byte for it, and their test
+// refuses it.
 fn patches_for(erasures: &Erasures<208>, values: &[u8x32; 16], wrong: u8x32) -> Patches
     ensures { (n : ℕ) (word : List ℕ) → n < 32 → length word ≡ 208
         → ((k : ℕ) → k < 16 → place values.now k n ≡ value word (power alpha k)) → Completes result erasures.now.marks n word }
@@ -244,9 +251,10 @@ fn fill_column(
     column.answered
 }
 
-// Answers one column by its syndromes, in its place. Answers whether nothing is corrected in rows that aren't marked. A
-// codeword that differs in a row that was answered is an answer too, but then the rows have to be tested. `errors`
-// counts such places alone, and not the failed rows. A column without an answer is as it was.
+// Answers one column by its syndromes, in its place: its bytes are a copy, so nothing received is lost. Answers whether
+// nothing is corrected in rows that aren't marked. A codeword that differs in a row that was answered is an answer too,
+// but then the rows have to be tested. `errors` counts such places alone, and not the failed rows. A column without an
+// answer is as it was.
 fn decode_column(
     code: &Po,
     erasures: &Erasures<208>,
@@ -338,7 +346,8 @@ fn lanes_at(word: &[u8; 208], at: usize) -> u8x32
     load(word, at)
 }
 
-/// Writes row `i` of the columns' words, a byte of each column.
+/// Writes row `i` of the columns' words, a byte of each column. It reads every column for one row, so callers that know
+/// of the row elsewhere don't call it. The row is the caller's, who may use it for the next one too.
 pub(crate) fn read_row(columns: &[ColumnAnswer], i: usize, row: &mut [u8; 182])
     requires columns { length columns.now ≡ 182 }
     requires row { i < 208 }

@@ -47,7 +47,8 @@ pub enum FrameSource {
 
 impl FrameSource {
     /// Where the rows of a block are read of which so many bytes were fixed, and whose answered rows are kept or may
-    /// not be. A block of which no byte was fixed is what was received.
+    /// not be. A block of which no byte was fixed is what was received: also its failed rows, which `Answers` would
+    /// read column by column. So this is asked first.
     pub fn of(bytes: u32, are_kept: bool) -> FrameSource
         ensures received { result ≡ FrameSource.Received → bytes ≡ 0 }
         ensures answers { result ≡ FrameSource.Answers → IsTrue are_kept }
@@ -123,7 +124,8 @@ fn read_frames(
 
 /// Reads data frame `f` of a block as that of an entry of a plan: checks it, and writes its unscrambled Main Data.
 /// After a cause these mean nothing. It is for blocks that aren't in a `Work`, as dvd_deep has them. The scrambling
-/// bytes are made for this frame alone, where `read_frames` makes them once for sixteen.
+/// bytes are made for this frame alone, where `read_frames` makes them once for sixteen. b29 of an ID isn't compared,
+/// so `false` will do for it here too.
 pub fn read_frame_at(
     rows: &[[u8; 182]; 208],
     plan: &BlockPlan,
@@ -146,7 +148,7 @@ pub fn read_frame_at(
     }
 }
 
-// A cause of a frame, as that of a block: with the frame's number.
+// A cause of a frame, as that of a block: with the frame's number. dvd_frame knows one frame, and not which it is.
 fn cause_of(f: u8, cause: FrameCause) -> Cause
     ensures { result ≡ cause_in f cause }
 {
@@ -157,7 +159,8 @@ fn cause_of(f: u8, cause: FrameCause) -> Cause
     }
 }
 
-// Writes frame `f` of the block of these columns, whose rows are read from this source.
+// Writes frame `f` of the block of these columns, whose rows are read from this source: by the clauses each source that
+// may be given has the same bytes.
 fn get_frame(
     received: &Received,
     answers: &[AnswerRow],
@@ -219,8 +222,8 @@ fn put_kept_row(
     }
 }
 
-// Writes frame `f` of these rows. Also ensures that they have 182 bytes, by which two rows that differ nowhere are
-// equal.
+// Writes frame `f` of these rows: rows 12f to 12f + 11, as the rows from 192 on are outer parity. Also ensures that
+// they have 182 bytes, by which two rows that differ nowhere are equal.
 fn copy_received(rows: &[[u8; 182]], f: usize, frame: &mut [u8; 2064])
     requires rows { length rows.now ≡ 208 }
     requires frame { f < 16 }
@@ -232,7 +235,8 @@ fn copy_received(rows: &[[u8; 182]], f: usize, frame: &mut [u8; 2064])
     }
 }
 
-/// Writes frame `f` of the block of these columns.
+/// Writes frame `f` of the block of these columns. Each row is first gathered whole, and its ten bytes of inner parity
+/// are then left out, so that `put_data` is the one place that knows what a frame has of a row.
 pub(crate) fn copy_frame(columns: &[ColumnAnswer], f: usize, frame: &mut [u8; 2064])
     requires columns { length columns.now ≡ 182 }
     requires frame { f < 16 }

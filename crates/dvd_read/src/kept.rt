@@ -2,7 +2,8 @@
 //! apart from each other can't know it. A row that is kept is a codeword already, and needs no test.
 //! 32 rows and sixteen columns are compared at once, in vectors with a lane for each row. In clauses `IsRowKept` says
 //! that the columns from one place to the one before another have the bytes of a row's answer. A vector is a list
-//! there, whose length its type doesn't say: so clauses say that there are 32 lanes.
+//! there, whose length its type doesn't say: so clauses say that there are 32 lanes. A lane of `any_of` is 0 exactly
+//! where that lane of each vector is.
 ghost use Rattle.std.specs.Prelude.{◌≡◌, ◌↔◌, ℕ, ◌+◌, ◌<◌, ◌≤◌, IsTrue, false, length, map, slice_index, slice_index_or};
 ghost use Rattle.coding.specs.TwoPass.{failed_of};
 ghost use Rattle.dvd_capture.specs.declared.parts.ColumnAnswer.{ColumnAnswer};
@@ -14,7 +15,8 @@ use rs_lanes::{any_of, load, load_transposed};
 use std::simd::prelude::*;
 
 /// Whether the columns of a block have, in each row that didn't fail, the bytes of the rows' answers.
-/// Only passes with several workers ask this. One worker alone knows it of `answer_columns`.
+/// Only passes with several workers ask this. One worker alone knows it of `answer_columns`, without comparing. It ends
+/// at the first difference, since then all rows are tested in any case.
 pub fn are_kept(answers: &[AnswerRow], failed: &[bool; 208], columns: &[ColumnAnswer]) -> bool
     requires rows { length answers.now ≡ 208 }
     requires marks { failed.now ≡ failed_of (map answer_word answers.now) }
@@ -52,7 +54,8 @@ fn are_rows_kept(
     true
 }
 
-// Lanes that are zero where the columns have the bytes of the rows' answers: lane `n` for row `top + n`.
+// Lanes that are zero where the columns have the bytes of the rows' answers: lane `n` for row `top + n`. Failed rows
+// are compared too, and the caller passes over their lanes: no lane can be left out of a vector.
 fn rows_changed(answers: &[AnswerRow], columns: &[ColumnAnswer], top: usize) -> u8x32
     requires rows { length answers.now ≡ 208 }
     requires columns { length columns.now ≡ 182 }
@@ -86,7 +89,8 @@ fn tile_changed(answers: &[AnswerRow], columns: &[ColumnAnswer], top: usize, at:
     any_of(&differences)
 }
 
-// Lanes that are zero where these are the 32 bytes of a column from `top` on.
+// Lanes that are zero where these are the 32 bytes of a column from `top` on: the exclusive or of two bytes is 0 where
+// they are equal.
 fn difference(lanes: u8x32, word: &[u8; 208], top: usize) -> u8x32
     requires lanes { length lanes ≡ 32 }
     requires top { top + 32 ≤ 208 }

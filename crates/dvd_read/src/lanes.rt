@@ -9,7 +9,8 @@ use arrayvec::ArrayVec;
 use std::simd::prelude::*;
 
 /// Lane `n` of each vector: where these are the values of a word, its syndromes. It is a list, as a decoder takes the
-/// syndromes of a code of any length, with room for 32 of them: no code here has more parity bytes.
+/// syndromes of a code of any length, with room for 32 of them: no code here has more parity bytes. Rows have ten of
+/// them (`R`), and columns sixteen. Callers ask word by word, since not every word needs them.
 pub(crate) fn lane_of<const R: usize>(vectors: &[u8x32; R], n: usize) -> ArrayVec<u8, 32>
     requires few { R ≤ 32 }
     requires lane { n < 32 }

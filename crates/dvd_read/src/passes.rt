@@ -43,7 +43,9 @@ pub fn two_pass(work: &mut Work) -> Result<Fixed, Cause>
     end_passes(work, are_kept)
 }
 
-/// Answers the rows and columns of a captured block. Answers whether the columns correct no row that was answered.
+/// Answers the rows and columns of a captured block. Answers whether the columns correct no row that was answered;
+/// `false` claims nothing. What was found is set by `end_passes`: the two are apart since several workers answer
+/// likewise in dvd_par, and end by the same call.
 pub(crate) fn answer_block(work: &mut Work) -> bool
     requires { HasBlock (stage_of work.old) }
     ensures answers { AreAnswersFrom (rows_of work.old) (marks_of_work work.old) 0 (answers_of_work work.new) }
@@ -86,7 +88,8 @@ fn answer_all_columns(answers: &[AnswerRow], columns: &mut [ColumnAnswer]) -> bo
 /// Sets the stage of a block whose rows and columns are answered, as `two_pass` does: the block of these columns must
 /// have codewords in all its rows. Where the columns correct no row that was answered, these rows are codewords and
 /// need no test.
-/// It is public for those who answer the pieces of both passes by several workers. All buffers stay.
+/// It is public for those who answer the pieces of both passes by several workers. All buffers stay. `are_kept` may be
+/// `false` of any block: then all rows are tested, which takes more time and gives the same answer.
 pub fn end_passes(work: &mut Work, are_kept: bool) -> Result<Fixed, Cause>
     requires answers { AreAnswersFrom (rows_of work.old) (marks_of_work work.old) 0 (answers_of_work work.old) }
     requires columns { marked (failed_of (map answer_word (answers_of_work work.old))) ≤ 16
@@ -209,7 +212,8 @@ fn count_corrections(work: &Work) -> u32
 }
 
 // In how many places row `i` of the block differs from what was received: where nothing was marked, at its errors. A
-// mark on a right byte is no correction, so rows with marks are compared.
+// mark on a right byte is no correction, so rows with marks are compared. `erased` says whether there are any, so the
+// marks are named by the clause alone.
 fn row_corrections(
     received: &[u8; 182],
     answer: &AnswerRow,
@@ -235,7 +239,7 @@ fn row_corrections(
 }
 
 // In how many places the block of the columns differs from what was received. The columns may have changed rows that
-// were answered, so all places are compared.
+// were answered, so all places are compared: row by row, as the received bytes lie.
 fn count_differences(received: &Received, columns: &[ColumnAnswer]) -> u32
     requires { length columns.now ≡ 182 }
     ensures { result ≡ block_differences (received_rows received.now) (from_columns (words_of_columns columns.now)) }

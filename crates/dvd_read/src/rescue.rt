@@ -20,7 +20,8 @@ use dvd_frame::{Scrambler, read_frame_into};
 use dvd_layout::{BlockPlan, id_of, rule_of};
 
 // Of what frames are saved: the columns, where they hold the block that two passes fixed, or else the rows' answers.
-// They are borrowed apart from the sectors, which are written meanwhile.
+// They are borrowed apart from the sectors, which are written meanwhile. Both are there whatever the stage is: clauses
+// say what is saved by the rows' answers, of a fixed block too.
 #[derive(Drop)]
 struct Held<'a> {
     fixed: bool,
@@ -67,7 +68,8 @@ pub fn salvage(work: &mut Work, plan: &BlockPlan) -> u8
 
 /// Writes the unscrambled Main Data of one data frame if it can be known to be right, as `salvage` does for all
 /// sixteen, or else zeros. Answers whether the frame is saved.
-/// It is for callers that ask which frames are saved, and not only how many. `work` stays.
+/// It is for callers that ask which frames are saved, and not only how many. `work` stays. The scrambling bytes are
+/// made for this frame alone, since nothing is kept between calls.
 pub fn salvage_frame(work: &Work, plan: &BlockPlan, f: usize, main: &mut [u8; 2048]) -> bool
     requires stage { HasAnswers (stage_of work.now) }
     requires numbers { HasNumbers plan.now }
@@ -142,7 +144,8 @@ fn read_candidate(
         && read_frame_into(scrambler, frame, id_of(plan, false, f), rule, main).is_ok()
 }
 
-// Writes the candidate of frame `f`, if it has one. Answers whether it has.
+// Writes the candidate of frame `f`, if it has one. Answers whether it has. The frames of a fixed block are read of the
+// columns, which have all of it: whether the rows are kept isn't known here.
 fn copy_candidate(held: &Held<'_>, f: usize, frame: &mut [u8; 2064]) -> bool
     requires held { HoldAnswers held.now.fixed held.now.columns.now held.now.answers.now }
     requires frame { f < 16 }

@@ -3,6 +3,8 @@
 //! They are found for 32 rows at once, in a vector for each power; row `n` of the 32 has lane `n` of each. From them it
 //! can also be proposed for 32 rows at once what to add to each. A proposal is tested before it counts, so a wrong one
 //! costs time and no answer. In clauses `IsAnswer` says that a row is answered so, by its bytes and its marks.
+//! The ten syndromes of one row are a list with room for 32, as decoders of codes of any length read them. A lane of
+//! `any_of` is 0 exactly where that lane of each vector is: so one vector says which of 32 rows are codewords.
 ghost use Rattle.std.specs.Prelude.{◌≡◌, ℕ, ◌+◌, ◌<◌, ◌≤◌, ◌↔◌, IsTrue, false, length, map, replicate};
 ghost use Rattle.coding.specs.Field.{alpha, power};
 ghost use Rattle.coding.specs.Words.{value};
@@ -28,7 +30,8 @@ pub(crate) const MOST_FAILED: u16 = 16;
 // A row with more marks than this is lost: each costs one of the ten bytes of inner parity.
 const MOST_MARKED: u32 = 10;
 
-// For fewer rows than this, to decode each takes less time than to propose for 32. Any number gives the same answers.
+// For fewer rows than this, to decode each takes less time than to propose for 32: proposing goes through all lanes,
+// however few are wrong. Any number gives the same answers.
 const FEWEST_PROPOSED: u16 = 4;
 
 // What is answered of a codeword without marks.
@@ -61,7 +64,8 @@ pub fn answer_rows(
     }
 }
 
-// Answers rows until one isn't lost. Answers whether all are.
+// Answers rows until one isn't lost. Answers whether all are. After `false` the caller answers all of them, those from
+// here once more: no clause says which these are, and to answer a lost row twice changes nothing.
 fn answer_lost_rows(
     received: &Received,
     marks: &Marks,
@@ -82,7 +86,9 @@ fn answer_lost_rows(
     true
 }
 
-// Answers row `i` if it is lost: no codeword is near it, whatever its bytes are. Answers whether it is.
+// Answers row `i` if it is lost: no codeword is near it, whatever its bytes are. Answers whether it is. The received
+// bytes are copied though they don't count, as `answer_erased` leaves them in each failed row: nothing of an earlier
+// block stays, and a column in which they happen to be right is a codeword without a patch.
 // Few rows are marked, so what counts their marks stays out of the loop over all rows.
 #[inline(never)]
 fn answer_lost(row: &[u8; 182], marks: &Marks, i: usize, answer: &mut AnswerRow) -> bool
@@ -184,7 +190,8 @@ fn answer_unmarked(
     }
 }
 
-// The same where nothing right is proposed. What the proposal has left in the answer's bytes is overwritten.
+// The same where nothing right is proposed. What the proposal has left in the answer's bytes is overwritten. It is
+// `answer_erased` without erasures, and its clause says so of 182 places that aren't marked.
 fn answer_alone(code: &Pi, row: &[u8; 182], syndromes: ArrayVec<u8, 32>, answer: &mut AnswerRow)
     requires { syndromes.items ≡ syndromes_of 10 row.now }
     ensures { IsAnswer row.now (replicate 182 false) answer.new }
@@ -203,7 +210,8 @@ fn answer_marked(
     requires { syndromes.items ≡ syndromes_of 10 row.now }
     ensures { IsAnswer row.now marks.now answer.new }
 {
-    // With more marks than ten parity bytes no codeword is near.
+    // With more marks than ten parity bytes no codeword is near. `answer_group` has answered such rows before, but no
+    // clause here excludes them.
     match Erasures::new(marks, 10) {
         Some(erasures) => answer_erased(code, row, &erasures, syndromes, answer),
         None => answer.set(row, None),
@@ -229,8 +237,9 @@ fn answer_erased(
     }
 }
 
-/// Notes which rows failed. They are the marks of all columns. All 208 flags are set anew. It is public, as
-/// `are_few` is, for dvd_par, whose second pass begins likewise.
+/// Notes which rows failed. They are the marks of all columns, so that a flag for each row is needed and not their
+/// number alone. All 208 flags are set anew. It is public, as `are_few` is, for dvd_par, whose second pass begins
+/// likewise.
 pub fn mark_failed(answers: &[AnswerRow], failed: &mut [bool; 208])
     requires { length answers.now ≡ 208 }
     ensures { failed.new ≡ failed_of (map answer_word answers.now) }
@@ -240,14 +249,16 @@ pub fn mark_failed(answers: &[AnswerRow], failed: &mut [bool; 208])
     }
 }
 
-/// Whether no more rows failed than the second pass can correct: sixteen.
+/// Whether no more rows failed than the second pass can correct: sixteen. Callers ask it before they answer columns,
+/// which are all without an answer otherwise.
 pub fn are_few(failed: &[bool; 208]) -> bool
     ensures { IsTrue result ↔ marked failed.now ≤ 16 }
 {
     count_failed(failed) <= MOST_FAILED
 }
 
-/// How many rows failed. 16 bits, as the causes have for numbers of rows.
+/// How many rows failed. 16 bits, as the causes have for numbers of rows. `passes` calls it for the cause that names
+/// the number; other crates can't, since `parts` doesn't hand it on.
 pub fn count_failed(failed: &[bool; 208]) -> u16
     ensures count { result ≡ marked failed.now }
     ensures within { result ≤ 208 }

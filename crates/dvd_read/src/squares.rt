@@ -1,9 +1,9 @@
 //! Squares of sixteen rows and sixteen places, transposed: the bytes of one fill sixteen registers of sixteen bytes.
-//! The functions are inlined, so that a square stays in registers on its way. `load` and `store` are here since those
-//! of rs_lanes are of vectors of 32 bytes. A row's answer has 182 bytes side by side, and a column 208, so that a copy
-//! byte by byte would touch another row for each byte of a column. In clauses `AreCopied` says that the columns have
-//! the bytes of the rows before one, and `AreOwnFrom` that they have those of all. A vector is a list there, whose
-//! length its type doesn't say: so clauses say that there are sixteen lanes.
+//! Those that `copy_square` calls are inlined, so that a square stays in registers on its way. `load` and `store` are
+//! here since those of rs_lanes are of vectors of 32 bytes. A row's answer has 182 bytes side by side, and a column
+//! 208, so that a copy byte by byte would touch another row for each byte of a column. In clauses `AreCopied` says that
+//! the columns have the bytes of the rows before one, and `AreOwnFrom` that they have those of all. A vector is a list
+//! there, whose length its type doesn't say: so clauses say that there are sixteen lanes.
 ghost use Rattle.std.specs.Prelude.{◌≡◌, ℕ, ◌+◌, ◌/◌, ◌%◌, ◌<◌, ◌≤◌, length, slice_index, slice_index_or, EachIndex};
 ghost use Rattle.coding.specs.Product.{line, place};
 ghost use Rattle.dvd_read.specs.Inner.Squares.{IsRiffled, IsTransposed};
@@ -26,7 +26,8 @@ pub(crate) fn copy_squares(answers: &[AnswerRow], start: usize, piece: &mut [Col
     }
 }
 
-// Writes into each of sixteen columns the bytes of the sixteen rows' answers from `top` on.
+// Writes into each of sixteen columns the bytes of the sixteen rows' answers from `top` on. `wide` says what the type
+// does: the prover doesn't know the length of an array in a list.
 fn copy_square(answers: &[AnswerRow], top: usize, start: usize, piece: &mut [ColumnAnswer])
     requires rows { length answers.now ≡ 208 }
     requires top { top + 16 ≤ 208 }
@@ -65,7 +66,8 @@ fn put_sixteen(lanes: u8x16, at: usize, word: &mut [u8; 208])
     store(lanes, word, at);
 }
 
-// Sets the sixteen bytes from place `at` on. Those before stay.
+// Sets the sixteen bytes from place `at` on: a vector is copied to the beginning of a slice, however long it is. Those
+// before stay, as `below` says. Those after stay too, but callers write upwards and needn't know it.
 #[inline(always)]
 fn store(lanes: u8x16, word: &mut [u8], at: usize)
     requires { at + 16 ≤ length word.old }
@@ -91,7 +93,7 @@ fn load_rows(answers: &[AnswerRow], top: usize, at: usize) -> [u8x16; 16]
     square
 }
 
-// Sixteen places of a row.
+// Sixteen places of a row. Its type has the 182 bytes that `load` has to be shown of a slice.
 #[inline(always)]
 fn load_row(row: &[u8; 182], at: usize) -> u8x16
     requires { at + 16 ≤ 182 }
@@ -101,7 +103,7 @@ fn load_row(row: &[u8; 182], at: usize) -> u8x16
     load(row, at)
 }
 
-// The sixteen bytes from place `at` on.
+// The sixteen bytes from place `at` on: a vector is made of the beginning of a slice, however long it is.
 #[inline(always)]
 fn load(row: &[u8], at: usize) -> u8x16
     requires { at + 16 ≤ length row.now }
@@ -149,7 +151,7 @@ fn first_lanes(a: u8x16, b: u8x16) -> u8x16
     a.shuffle(b, [0, 16, 1, 17, 2, 18, 3, 19, 4, 20, 5, 21, 6, 22, 7, 23])
 }
 
-// The last eight lanes of two vectors, alternating.
+// The last eight lanes of two vectors, alternating. Numbers from 16 on are the lanes of `b`, here too.
 #[inline(always)]
 fn last_lanes(a: u8x16, b: u8x16) -> u8x16
     requires a { length a ≡ 16 }
