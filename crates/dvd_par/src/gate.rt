@@ -2,7 +2,8 @@
 
 /// It is asked once at the start of each piece, in each pass, by the worker that does the piece. It can let a worker
 /// wait, and changes nothing that the work reads. No contract can say that two threads ran, so a test has to see it:
-/// its gate lets two pieces wait for each other.
+/// its gate lets two pieces wait for each other. That gate, in dvd_trial, is for runs of whole commands: so the trait
+/// is public, and commands hand a gate on. It is `Sync`, since several threads ask one gate.
 pub trait Gate: Sync {
     /// Piece `piece` of a pass begins. It has no clause: all that it can do is let its caller wait.
     fn pass(&self, piece: usize);

@@ -1,4 +1,5 @@
-//! The parity of a block, with several workers. Rows and then columns are shared out, as in decoding.
+//! The parity of a block, with several workers. Rows and then columns are shared out, as in decoding. `rt` is the
+//! runtime, which makes the threads, and `gate` is asked before each piece: only gates of tests do anything.
 ghost use Rattle.std.specs.Prelude.{◌≡◌, ℕ, ◌+◌, ◌<◌, ◌≤◌, ◌++◌, length, take, EachIndex, replicate};
 ghost use Rattle.coding.specs.Words.{IsCodeword, IsEncoded};
 ghost use Rattle.dvd_block.specs.Buffers.{block_rows, cells_all, lines_rows};
@@ -12,14 +13,16 @@ use std::thread::Threads;
 
 /// Sets the inner and the outer parity as `Block::add_parity` does, with so many workers. A worker has the rows of a
 /// piece in the first pass, and the columns of a piece in the second. The second begins where the first has ended. One
-/// worker works on this thread. The cells are zeros at the end.
+/// worker works on this thread. The cells are zeros at the end. Sixteen workers are the most that the option allows;
+/// the passes don't need that limit.
 pub fn add_parity_par<R: Threads + Sync, G: Gate>(rt: &R, workers: u8, gate: &G, block: &mut Block)
     requires workers { (1 ≤ workers) × (workers ≤ 16) }
     ensures parity { IsParityAdded (block_rows block.old) (block_rows block.new) }
     ensures cells { cells_all block.new.cells ≡ replicate 182 (replicate 16 0) }
 {
     if workers == 1 {
-        // One call does both passes, so the gate is asked for each of them here.
+        // One call does both passes, and writes the outer parity into its rows without cells. So the gate is asked for
+        // each pass here.
         gate.pass(0);
         gate.pass(0);
         block.add_parity();
@@ -34,7 +37,8 @@ pub fn add_parity_par<R: Threads + Sync, G: Gate>(rt: &R, workers: u8, gate: &G,
 }
 
 // Sets the inner parity of the upper 192 rows. Rows 192 to 207 get theirs by the outer parity: they are sums of
-// multiples of the rows above, and so codewords too.
+// multiples of the rows above, and so codewords too. The clause is of the buffer, and that of `row_pieces` of the rows
+// that it lends.
 fn inner_parity<R: Threads + Sync, G: Gate>(rt: &R, workers: u8, gate: &G, lines: &mut Lines)
     requires { 1 ≤ workers }
     ensures { (i : ℕ) → i < 192 → IsEncoded 182 10 (take 172 (line (lines_rows lines.old) i)) (line (lines_rows lines.new) i) }
@@ -60,7 +64,8 @@ fn row_pieces<R: Threads + Sync, G: Gate>(rt: &R, workers: u8, gate: &G, rows: &
 }
 
 // Sets the outer parity of each column, in a cell of its own: sixteen bytes side by side. In the block they are in
-// sixteen rows, and a piece has to be one slice. `place_parity` then copies the cells into rows 192 to 207.
+// sixteen rows, and a piece has to be one slice. `place_parity` then copies the cells into rows 192 to 207. The clause
+// is of the buffer, and that of `cell_pieces` of the cells that it lends.
 fn outer_parity<R: Threads + Sync, G: Gate>(
     rt: &R,
     workers: u8,
@@ -75,7 +80,7 @@ fn outer_parity<R: Threads + Sync, G: Gate>(
 }
 
 // Sets these cells to the outer parity of their columns, piece by piece. A piece goes by vectors, in groups of 32 from
-// its first column.
+// its first column. All workers read all rows, which nobody writes meanwhile.
 fn cell_pieces<R: Threads + Sync, G: Gate>(
     rt: &R,
     workers: u8,

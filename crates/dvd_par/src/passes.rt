@@ -1,6 +1,7 @@
 //! Both passes over a captured block, with several workers in each. Rows don't depend on each other, nor do columns, so
 //! a block is shared out. Blocks side by side would need a captured block for each worker, and an order for what they
-//! write.
+//! write. `rt` is the runtime, which makes the threads, and `gate` is asked before each piece: only gates of tests do
+//! anything.
 ghost use Rattle.std.specs.Prelude.{◌≡◌, ◌+◌, ◌<◌, ◌≤◌, length, map, IsTrue};
 ghost use Rattle.coding.specs.Filling.{marked};
 ghost use Rattle.dvd_capture.specs.Rule.{HasBlock};
@@ -21,8 +22,8 @@ use std::thread::Threads;
 
 /// Decodes a captured block as `dvd_read::two_pass` does, with so many workers. A worker has the rows of a piece in the
 /// first pass, and the columns of a piece in the second. The second begins where the first has ended. One worker works
-/// on this thread. Sixteen workers are the most that the option allows; no private function needs that limit. Only
-/// tests call it: commands read blocks as entries of a plan, by `read_block_par`.
+/// on this thread. Sixteen workers are the most that the option allows; the passes don't need that limit. Only tests
+/// call it: commands read blocks as entries of a plan, by `read_block_par`.
 pub fn two_pass_par<R: Threads + Sync, G: Gate>(
     rt: &R,
     workers: u8,
@@ -68,7 +69,7 @@ pub(crate) fn answer_block<R: Threads + Sync, G: Gate>(
 }
 
 // The first pass. A single piece is done on this thread. Rows don't depend on each other, so the answers are the same
-// however they are cut.
+// however they are cut. The workers share one code, whose generator polynomial is computed when it is made.
 fn row_pass<R: Threads + Sync, G: Gate>(
     rt: &R,
     workers: u8,
@@ -92,9 +93,10 @@ fn row_pass<R: Threads + Sync, G: Gate>(
     for_each_piece(rt, workers, gate, answers, &answer);
 }
 
-// The second pass, where no more rows failed than the sixteen parity bytes of a column correct. Answers whether it is
-// known to correct no row that was answered. Several workers answer their pieces apart from each other, so the columns
-// are compared with the rows at the end.
+// The second pass, where no more rows failed than the sixteen parity bytes of a column correct; else the columns stay,
+// and nothing is claimed. Answers whether it is known to correct no row that was answered. Several workers answer their
+// pieces apart from each other, so the columns are compared with the rows at the end. The failed rows are noted once,
+// on this thread, since all columns have them as marks.
 fn column_pass<R: Threads + Sync, G: Gate>(
     rt: &R,
     workers: u8,
@@ -124,7 +126,8 @@ fn column_pass<R: Threads + Sync, G: Gate>(
 }
 
 // The columns, piece by piece. What is answered of a single piece is dropped: the workers share the closure, which
-// can't note it, and the columns are compared with the rows at the end.
+// can't note it, and the columns are compared with the rows at the end. The closure is proved by its own clauses, so
+// `requires` repeats there what this function knows of the answers. The workers share one code, as in the first pass.
 fn column_pieces<R: Threads + Sync, G: Gate>(
     rt: &R,
     workers: u8,

@@ -1,5 +1,6 @@
 //! Reading of a captured block as an entry of a plan, with several workers. Only the passes are shared out. The frames
-//! are checked on the calling thread in their order, since the first cause is named.
+//! are checked on the calling thread in their order, since the first cause is named. `rt` is the runtime, which makes
+//! the threads, and `gate` is asked before each piece of a pass: only gates of tests do anything.
 ghost use Rattle.std.specs.Prelude.{◌≤◌};
 ghost use Rattle.dvd_capture.specs.Rule.{HasBlock};
 ghost use Rattle.dvd_capture.specs.Works.{stage_of};
@@ -30,9 +31,11 @@ pub fn read_block_par<R: Threads + Sync, G: Gate>(
     requires numbers { HasNumbers plan.now }
     ensures { IsBlockRead work.old work.new plan.now result }
 {
+    // Whether the columns keep the rows that were answered: it spares a test, and says where rows can be read whole.
     let are_kept = answer_block(rt, workers, gate, work);
     match end_passes(work, are_kept) {
         Ok(fixed) => {
+            // It sets the sectors to zeros itself where a frame has a cause. It isn't shared out.
             sectors_of_block(work, plan, FrameSource::of(fixed.bytes, are_kept))?;
             Ok(fixed)
         }
