@@ -18,7 +18,7 @@ use dvd_capture::{FetchAnswer, Form, RowMarks, cut_off};
 use dvd_merge::Merge;
 use dvd_ports::{Failed, Source, read_whole};
 
-// The bytes of a recorded row, and of its mark bits.
+// The bytes of a recorded row, and of its mark bits: one for each of 182 bytes, in whole bytes.
 const ROW: usize = 182;
 
 const MARK_BYTES: usize = 23;
@@ -36,7 +36,7 @@ pub struct FrameWork {
 impl FrameWork {
     ghost use Rattle.dvd_assemble.specs.Works.{captured, frame_marks, frame_rows};
 
-    /// Zeros without marks.
+    /// Zeros without marks, for `fetch_frame` to fill: one buffer serves all frames of a run.
     pub fn new() -> FrameWork
         ensures rows { frame_rows result ≡ replicate 13 (replicate 182 0) }
         ensures marks { frame_marks result ≡ replicate 13 (replicate 182 false) }
@@ -60,7 +60,7 @@ impl FrameWork {
         }
     }
 
-    // The first row.
+    // The first row, which has the ID: it alone says where the frame belongs.
     pub(crate) fn first_row(&self) -> &[u8; ROW]
         ensures { result.now ≡ line (frame_rows self.now) 0 }
     {
@@ -76,7 +76,8 @@ impl FrameWork {
     }
 
     // Joins the frame into a block as its recording frame `f`. Its rows go to where the order of recording has them,
-    // the last among the rows of outer parity. The block's other rows stay, and so does this frame.
+    // the last among the rows of outer parity. The block's other rows stay, and so does this frame. A `Merge` is what
+    // frames said of a block so far: a marked place adds nothing to it, and two different bytes make a conflict.
     pub(crate) fn join_into(&self, f: usize, merge: &mut Merge)
         requires { f < 16 }
         ensures { table_of merge.new ≡ with_frame f (captured self.now) (table_of merge.old) }
@@ -87,7 +88,8 @@ impl FrameWork {
     }
 }
 
-// Sets a row and its marks to those in the bytes of a recorded row.
+// Sets a row and its marks to those in the bytes of a recorded row: 182 bytes, and in the marked form the mark bits
+// after them. The form alone says whether there are any, so both forms are read by one function.
 fn put_row(row: &mut [u8; ROW], marks: &mut RowMarks, form: Form, bytes: &[u8])
     requires { length bytes.now ≡ record_size form }
     ensures row { row.new ≡ take 182 bytes.now }
@@ -97,10 +99,12 @@ fn put_row(row: &mut [u8; ROW], marks: &mut RowMarks, form: Form, bytes: &[u8])
     marks.copy_from_record(form, bytes);
 }
 
-/// Reads one recording frame, by as many calls as it takes: 2,366 bytes in the plain form, 2,665 in the marked form. It
-/// is `End` where the source ended before the first, and `Short` where it ended within. One that isn't whole leaves the
-/// frame as it was. Marks of these forms break no rule (`no_rule`). The listed form is left out (`HasSize`): its units
-/// are whole blocks, whose sizes differ. `tactic` names a lemma: where fewer bytes came, the last read met the end.
+/// Reads one recording frame, by as many calls as that needs: 2,366 bytes in the plain form, 2,665 in the marked form.
+/// It is `End` where the source ended before the first, and `Short` where it ended within. One that isn't whole leaves
+/// the frame as it was. Marks of these forms break no rule (`no_rule`). The listed form is left out (`HasSize`): its
+/// units are whole blocks, whose sizes differ. It isn't the call that reads a whole block: that one puts rows in their
+/// places, and here only the rows that are read say which place that is. `tactic` names a lemma: where fewer bytes
+/// came, the last read met the end.
 #[tactic(auto, using(dvd_capture::proofs::FetchedCounts::cut_counts))]
 pub fn fetch_frame<S: Source>(src: &mut S, form: Form, frame: &mut FrameWork) -> FetchAnswer
     requires { HasSize form }
@@ -114,7 +118,8 @@ pub fn fetch_frame<S: Source>(src: &mut S, form: Form, frame: &mut FrameWork) ->
 {
     let size = 13 * form.record_size();
     let mut buffer = [0; MOST];
-    // As many bytes as the form has, so that none of the next frame is read.
+    // The bytes come here first and not into the frame, which has to stay where they aren't all. They are as many as
+    // the form has, so that none of the next frame is read.
     let bytes = &mut buffer[..size];
     match read_whole(src, bytes) {
         // `End` where there is none, and else `Short`.

@@ -55,7 +55,8 @@ fn codeword_near(row: &[u8; 182], marks: &RowMarks) -> Option<[u8; 182]>
     }
 }
 
-// Likewise for any row. A copy is decoded: a frame is joined to its block as it was received.
+// Likewise for any row. A copy is decoded: a frame is joined to its block as it was received. The marks are a bit each,
+// and the decoder reads a `bool` for each place.
 fn decoded(code: &Pi, row: &[u8; 182], marks: &RowMarks) -> Option<[u8; 182]>
     ensures { result ≡ near_of 182 10 row.now (marks_of_row marks.now) }
 {
@@ -77,7 +78,7 @@ fn home_of_id(layout: &Layout, id: Id) -> Option<(u16, u8)>
 {
     let blocks = layout.blocks(Zones::DataOnly);
     let before = blocks_before(layout, id.layer());
-    // A disk of one layer has no block of layer 1.
+    // `plan` has no entry past the last block. A disk of one layer has no block of layer 1.
     if before >= blocks {
         return None;
     }
@@ -86,6 +87,7 @@ fn home_of_id(layout: &Layout, id: Id) -> Option<(u16, u8)>
     // the next sixteen numbers, so the difference gives both block and frame, whether or not `first` is a multiple of
     // 16.
     let offset = id.number().checked_sub(first)?;
+    // It may go past the last block, or from layer 0 into the blocks of layer 1: the two tests below refuse both.
     let k = before + u64::from(offset / 16);
     let f = offset % 16;
     if k < blocks && has_frame(layout, k, f as usize, id) {
@@ -108,7 +110,8 @@ fn blocks_before(layout: &Layout, layer: u8) -> u64
 }
 
 // Whether frame `f` of block `k` has the place of this ID. The sector number alone isn't enough: area and layer have to
-// be right too. b29 isn't compared, so that an ID is found whatever its reflectivity bit is.
+// be right too. b29, the reflectivity bit, isn't compared, so that an ID is found whatever it is. `dim` is handed on
+// all the same: the definition lists the IDs as they are written.
 fn has_frame(layout: &Layout, k: u64, f: usize, id: Id) -> bool
     requires block { k < length (plan_of layout.now DataOnly) }
     requires frame { f < 16 }

@@ -22,7 +22,7 @@ use std::alloc::Global;
 #[derive(Drop)]
 pub struct Shelf {
     blocks: Vec<Merge>,
-    /// There are no more than 1,024 of them.
+    /// There are no more than 1,024 of them, so 16 bits hold the number of each.
     pub ghost few: { vec_len blocks ≤ 1024 },
 }
 
@@ -30,7 +30,7 @@ impl Shelf {
     ghost use Rattle.dvd_assemble.specs.Shelves.{tables_of};
 
     /// So many blocks of which no place is seen. All memory is taken here. `NoMemory` may come at any time, and nothing
-    /// is taken then.
+    /// is taken then. There is a block at least, as a layout has no layer without a sector.
     pub fn new(alloc: Global, blocks: u16) -> Result<Shelf, NoMemory>
         requires some { 0 < blocks }
         requires few { blocks ≤ 1024 }
@@ -38,6 +38,7 @@ impl Shelf {
     {
         let mut merges = Vec::with_capacity(alloc, usize::from(blocks)).map_err(|_| NoMemory)?;
         for _ in 0..blocks {
+            // There is room for each, but `push` may fail by its type.
             merges.push(Merge::new(alloc)?).map_err(|_| NoMemory)?;
         }
         Ok(Shelf { blocks: merges })
@@ -57,14 +58,15 @@ impl Shelf {
         Some((k, f))
     }
 
-    /// How many blocks there are.
+    /// How many blocks there are. The cast loses nothing, by `few`.
     pub fn blocks(&self) -> u16
         ensures { result ≡ length (tables_of self.now) }
     {
         self.blocks.len() as u16
     }
 
-    /// What is known of block `k`, lent so that it can be written.
+    /// What is known of block `k`, lent so that it can be written. The caller writes block after block, since a shelf
+    /// knows no output.
     pub fn merged(&self, k: u16) -> &Merge
         requires { k < length (tables_of self.now) }
         ensures { table_of result.now ≡ slice_index_or (tables_of self.now) k unseen }
