@@ -60,7 +60,8 @@ pub fn put_block(line: &mut Line, k: u64, plan: &BlockPlan)
 }
 
 /// Puts a cause at the end of a line. At most 43 bytes: the longest is that of an address, with a number of up to 20
-/// digits. The frame itself has one digit or two, but a bound for all numbers is proved once.
+/// digits. The frame itself has one digit or two, but a bound for all numbers is proved once. What was found at an
+/// address is a whole ID of 32 bits, so it has eight digits.
 #[tactic(auto, unfolding(crate::specs::Lines::cause_text))]
 pub(crate) fn put_cause(line: &mut Line, cause: &Cause)
     requires room { length line.old + 43 ≤ 256 }

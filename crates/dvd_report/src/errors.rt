@@ -14,7 +14,8 @@ use dvd_capture::Work;
 use dvd_read::{Cause, Fixed};
 use rs_decode::Fix;
 
-/// What a survey keeps of a block that was read with this answer. The work has the answers of both passes; it stays.
+/// What a survey keeps of a block that was read with this answer. The work has the answers of both passes; it stays. Of
+/// the answer only a cause is kept: what was fixed doesn't say how many rows have a PI error.
 pub(crate) fn survey_block(work: &Work, answer: &Result<Fixed, Cause>) -> Surveyed
     requires { HasAnswers (stage_of work.now) }
     ensures { result ≡ surveyed_with (rows_of work.now) (marks_of_work work.now) (result_err answer.now) }
@@ -27,8 +28,8 @@ pub(crate) fn survey_block(work: &Work, answer: &Result<Fixed, Cause>) -> Survey
     }
 }
 
-// How many received rows have a PI error, and how many failed. The answers are asked and not the rows, which would have
-// to be tested once more. Both in one go through the 208 rows, whose number eight bits hold.
+// How many received rows have a PI error, and how many failed, in this order. The answers are asked and not the rows,
+// which would have to be tested once more. Both in one go through the 208 rows, whose number eight bits hold.
 fn count_rows(work: &Work) -> (u8, u8)
     requires { HasAnswers (stage_of work.now) }
     ensures pi { result.0 ≡ pi_rows (rows_of work.now) (marks_of_work work.now) }
@@ -67,7 +68,8 @@ fn prove_row(row: &[u8; 182])
     prove_bytes(row);
 }
 
-// The elements of a slice of bytes are bytes. The call proves this, and does nothing at run time.
+// The elements of a slice of bytes are bytes. The call proves this, and does nothing at run time. It is of a slice, and
+// apart from `prove_row`, since the checker knows this of slices and not of arrays.
 fn prove_bytes(bytes: &[u8])
     ensures { All IsByte bytes.now }
 {}

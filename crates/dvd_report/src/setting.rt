@@ -5,7 +5,8 @@ ghost use Rattle.dvd_report.specs.Setting.{fault_text, setting_line};
 use crate::text::Line;
 use dvd_layout::LayoutFault;
 
-/// The line of a layout that breaks a rule.
+/// The line of a layout that breaks a rule: `setting: RULE` and a line feed. It is returned and not written, since each
+/// program writes it as its closing line.
 pub fn setting_line(fault: LayoutFault) -> Line
     ensures { result ≡ setting_line fault }
 {
@@ -17,7 +18,9 @@ pub fn setting_line(fault: LayoutFault) -> Line
 }
 
 // Puts the rule that is broken, after `setting: `, with its number in decimal: a layer, 0 or 1, sectors, blocks of a
-// zone, or the sector number after a layer.
+// zone, or the sector number after a layer. The words are those that the manual lists, which programs read. They aren't
+// the texts that a `LayoutFault` has as an error, which are sentences for people. The end of a layer that is too long
+// may pass 32 bits, as no other number here does.
 fn put_fault(line: &mut Line, fault: LayoutFault)
     requires { length line.old ≡ 9 }
     ensures items { line.new ≡ line.old ++ fault_text fault }

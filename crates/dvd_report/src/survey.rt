@@ -34,6 +34,8 @@ const MANY: u32 = 280;
 /// A survey: totals over all blocks, the PI error rows of the last eight, and the last block.
 /// It keeps only these of the list of its blocks; a contract sees it as the survey of that list. So a disk of any size
 /// is surveyed in the same memory. `Represents` relates the two; a clause with it holds for each list that this is of.
+/// The window is a circular buffer, which drops its oldest number by itself. Its crate has none that isn't on the heap.
+/// The last block is kept, since its line is written by a call of its own after it is added.
 #[derive(Drop)]
 pub struct Survey {
     totals: Totals,
@@ -66,8 +68,8 @@ impl Survey {
     }
 
     /// Adds a block that was decoded, and what was answered to it. The rows are counted as they were received. The work
-    /// stays, and no memory is allocated. With fewer than 2^32 blocks before, no total passes 64 bits. `HasAnswers`:
-    /// its rows were decoded.
+    /// stays, and no memory is allocated. With fewer than 2^32 blocks before, no total passes 64 bits: each grows by at
+    /// most 255 a block, and a plan has fewer blocks. `HasAnswers`: its rows were decoded.
     pub fn add(&mut self, work: &Work, answer: &Result<Fixed, Cause>)
         requires answers { HasAnswers (stage_of work.now) }
         requires room { self.old.totals.blocks < 2 ^ 32 }
@@ -118,7 +120,8 @@ impl Survey {
         write_whole(out, line_of_totals(&self.totals).as_slice())
     }
 
-    // The line of the last block, whole, so that it goes out as one piece. Blocks are counted from 0.
+    // The line of the last block, whole, so that it goes out as one piece. Blocks are counted from 0. The sum is added
+    // up again from the window, so that it isn't kept in two places.
     fn last_line(&self, plan: &BlockPlan) -> Line
         requires { 0 < self.now.totals.blocks }
         ensures { (blocks : List Surveyed) → Represents self.now blocks → result ≡ survey_line (length blocks - 1) plan.now blocks }

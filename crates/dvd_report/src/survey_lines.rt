@@ -11,7 +11,8 @@ use dvd_layout::BlockPlan;
 use dvd_read::Cause;
 
 /// The line of block `k` of a plan. `sum` is the PI error rows of it and the seven before it, which one block doesn't
-/// show. The counts of one block have eight bits, since a block has 208 rows.
+/// show. The counts of one block have eight bits, since a block has 208 rows. Words and order are those of the manual,
+/// for programs that read the lines.
 #[tactic(auto, unfolding(crate::specs::Survey::surveyed_line))]
 pub(crate) fn line_of_block(k: u64, plan: &BlockPlan, block: &Surveyed, sum: u32) -> Line
     ensures { result ≡ surveyed_line k plan.now block.now sum }
@@ -29,7 +30,8 @@ pub(crate) fn line_of_block(k: u64, plan: &BlockPlan, block: &Surveyed, sum: u32
     line
 }
 
-// Puts a cause at the end of a line, or `whole`. No cause is longer than 43 bytes.
+// Puts a cause at the end of a line, or `whole` for a block without one. No cause is longer than 43 bytes: the bound
+// that `put_cause` has.
 fn put_answer(line: &mut Line, cause: Option<Cause>)
     requires room { length line.old + 43 ≤ 256 }
     ensures bytes { line.new ≡ line.old ++ answer_text cause }

@@ -9,7 +9,9 @@ use itoa::Buffer;
 use std::marker::Model;
 
 /// A line of text, of at most 256 bytes. A contract sees it as the list of its bytes. No line of a report is longer,
-/// and `room` shows at each call that what is put fits. Any size with which those clauses hold would do.
+/// and `room` shows at each call that what is put fits. Any size with which those clauses hold would do. `len` says of
+/// the length what `bytes` implies, or less: so the next `room` follows by sums, without the digits of a number.
+/// `coded` is the code by which proofs compare such lists.
 #[derive(Drop)]
 pub struct Line {
     bytes: ArrayVec<u8, 256>,
@@ -42,7 +44,7 @@ impl Line {
         ensures bytes { self.new ≡ self.old ++ text.now }
         ensures len { length self.new ≡ length self.old + length text.now }
     {
-        // It can't fail, by `room`.
+        // It can't fail, by `room`. So no caller has to ask.
         let _ = self.bytes.try_extend_from_slice(text);
     }
 
@@ -65,7 +67,8 @@ impl Line {
         self.put(Buffer::new().format(number).as_bytes());
     }
 
-    /// Puts the last `width` hexadecimal digits of a number, of up to eight, in capitals at the end of the line.
+    /// Puts the last `width` hexadecimal digits of a number, of up to eight, in capitals at the end of the line. Lines
+    /// have six for a sector number and eight for an ID, with zeros before: their width is part of the format.
     pub fn put_hexadecimal(&mut self, number: u32, width: u32)
         requires digits { width ≤ 8 }
         requires room { length self.old + width ≤ 256 }
@@ -97,7 +100,7 @@ impl Line {
     }
 }
 
-// A table, since the digits from A on don't follow 9 in ASCII.
+// A table, since the digits from A on don't follow 9 in ASCII. Capitals, as the formats of the lines have them.
 fn hexadecimal_digit(value: u32) -> u8
     requires { value < 16 }
     ensures { result ≡ digit_glyph true value }
