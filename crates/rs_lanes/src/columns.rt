@@ -23,7 +23,7 @@ use crate::thirds::{thirds_of, values_of};
 use std::simd::prelude::*;
 
 /// Sets all bytes of sixteen rows to the outer parity of 192 rows: each column is then followed by its parity. What
-/// they had isn't read.
+/// they had isn't read. The rows are two slices, as a caller that has 208 rows splits them: the upper are only read.
 pub fn outer_parity(rows: &[[u8; 182]], parity: &mut [[u8; 182]])
     requires rows { length rows.now ≡ 192 }
     requires parity { length parity.old ≡ 16 }
@@ -69,7 +69,7 @@ pub fn parity_of_columns(rows: &[[u8; 182]], at: usize) -> [u8x32; 16]
     parity_of(&PO_MATRIX, &values_of(&thirds))
 }
 
-// Sets the outer parity of the 32 columns from `at` on. All else stays: groups of columns may share some.
+// Sets the outer parity of the 32 columns from `at` on. All else stays, so that groups of columns are set one by one.
 fn put_parity(rows: &[[u8; 182]], at: usize, parity: &mut [[u8; 182]])
     requires at { at + 32 ≤ 182 }
     requires rows { length rows.now ≡ 192 }
@@ -83,7 +83,8 @@ fn put_parity(rows: &[[u8; 182]], at: usize, parity: &mut [[u8; 182]])
     put_vectors(&parity_of_columns(rows, at), at, parity);
 }
 
-// Sets the bytes of 32 columns to those of the vectors. All others stay.
+// Sets the bytes of 32 columns, from `at` on, to those of the vectors: vector `k` has the bytes of row `k`. All others
+// stay, as groups of columns may share some.
 #[inline(always)]
 fn put_vectors(vectors: &[u8x32; 16], at: usize, parity: &mut [[u8; 182]])
     requires at { at + 32 ≤ 182 }

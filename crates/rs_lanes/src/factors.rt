@@ -19,7 +19,7 @@ macro_rules! multiples {
     };
 }
 
-// Rows of sixteen bytes.
+// Rows of sixteen bytes. Without commas and brackets a row is one line, where a formatted array takes four.
 macro_rules! rows {
     ($($a:literal $b:literal $c:literal $d:literal $e:literal $f:literal $g:literal $h:literal
        $i:literal $j:literal $k:literal $l:literal $m:literal $n:literal $o:literal $p:literal)*) => {
@@ -463,8 +463,9 @@ static POWERS: [[u8; 16]; 255] = rows!(
     0x01 0x47 0xD8 0x36 0x83 0xE9 0x7D 0x58 0x16 0x8B 0xEB 0xF3 0xF5 0x7A 0x90 0x24
     0x01 0x8E 0x47 0xAD 0xD8 0x6C 0x36 0x1B 0x83 0xCF 0xE9 0xFA 0x7D 0xB0 0x58 0x2C);
 
-/// The products of a factor with the sixteen low nibbles, and those with the sixteen high ones: row 0 and row 1. It is
-/// inlined, as `powers_of` is, so that a factor that is a constant stays one.
+/// The products of a factor with the sixteen low nibbles, and those with the sixteen high ones: row 0 and row 1. Both
+/// are one result, since a product needs both, and one clause then says that they belong to one factor. It is inlined,
+/// as `powers_of` is, so that a factor that is a constant stays one.
 #[inline(always)]
 pub fn products(factor: u8) -> [[u8; 16]; 2]
     ensures { IsTable factor result }
@@ -475,7 +476,8 @@ pub fn products(factor: u8) -> [[u8; 16]; 2]
     ]
 }
 
-/// The first sixteen powers of alpha^`exponent`, from the power 0 on. An exponent from 255 on repeats an earlier one.
+/// The first sixteen powers of alpha^`exponent`, from the power 0 on: sixteen, as no code of a block has more values.
+/// An exponent from 255 on repeats an earlier one, so there is no row for it.
 #[inline(always)]
 pub fn powers_of(exponent: usize) -> [u8; 16]
     requires { exponent < 255 }

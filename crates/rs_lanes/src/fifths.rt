@@ -55,16 +55,19 @@ fn turned(lanes: u8x32, turns: usize) -> u8x32
 
 // The values of each lane's word `y4 y3 y2 y1 y0` at the fifth roots of one: result `m` has those at alpha^(51 `m`).
 // A product for each of four bytes and each root but 1 would be sixteen. Roots in pairs with their inverses need six.
+// For each `m` there is one value, in the order in which `exponent` of `thirds` has the five exponents.
 #[inline(always)]
 fn fifths(y0: u8x32, y1: u8x32, y2: u8x32, y3: u8x32, y4: u8x32) -> [u8x32; 5]
     ensures { (m : ℕ) → m < 5 → HasLanes (line result m) (λ j.
         value (slice_index y4 j ∷ slice_index y3 j ∷ slice_index y2 j ∷ slice_index y1 j ∷ slice_index y0 j ∷ []) (power alpha (51 * m))) }
 {
-    // The roots other than 1 are 0x0A and its inverse 0xDD, 0x44 and its inverse 0x92. 0x0A and 0xDD add up to 0xD7,
-    // 0x44 and 0x92 to 0xD7 + 1. So a product with 0xD7 makes a sum with one root into that with its inverse. `crossed`
-    // is what both values share once y1 and y2 are multiplied by the inverses instead: y1 then goes with y4, y2 with
-    // y3. `first` is the value at 0x0A, and the last one, at 0xDD, comes of it. `second` is that at 0x44, and gives
-    // 0x92's.
+    // The roots are, for m from 0 to 4: 1, 0x0A, 0x44, 0x92 and 0xDD. 0xDD is the inverse of 0x0A, and 0x92 that of
+    // 0x44. 0x0A and 0xDD add up to 0xD7, 0x44 and 0x92 to 0xD7 + 1. So a product with 0xD7 makes a sum with one root
+    // into that with its inverse. At 0x0A the bytes y4, y3, y2, y1 are multiplied by 0xDD, 0x92, 0x44, 0x0A. With 0xDD
+    // for y1 and 0x92 for y2 too, y1 goes with y4 and y2 with y3, and two products serve four bytes. `crossed` puts
+    // right what that changes, but for the 1 in 0xD7 + 1: so y2 is added once more. That makes `first`, the value at
+    // 0x0A, and that at 0xDD comes of it. `second` is that at 0x44 likewise, with 0x92 for y1 and 0x0A for y2: here y1
+    // is added once more. It gives that at 0x92.
     let ends = xor(y1, y4);
     let middle = xor(y2, y3);
     let both = xor(ends, middle);

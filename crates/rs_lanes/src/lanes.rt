@@ -44,7 +44,7 @@ pub fn are_zeros(lanes: u8x32) -> bool
     lanes.reduce_or() == 0
 }
 
-/// The 32 bytes from place `at` on.
+/// The 32 bytes from place `at` on. `from_slice` reads the first 32 of a slice that may be longer.
 #[inline(always)]
 pub fn load(row: &[u8], at: usize) -> u8x32
     requires { at + 32 ≤ length row.now }
@@ -54,7 +54,8 @@ pub fn load(row: &[u8], at: usize) -> u8x32
     u8x32::from_slice(&row[at..])
 }
 
-/// Sets the 32 bytes from place `at` on. All others stay.
+/// Sets the 32 bytes from place `at` on. All others stay: `copy_to_slice` writes the first 32 of a slice that may be
+/// longer.
 #[inline(always)]
 pub fn store(lanes: u8x32, row: &mut [u8], at: usize)
     requires { at + 32 ≤ length row.old }
@@ -68,7 +69,8 @@ pub fn store(lanes: u8x32, row: &mut [u8], at: usize)
 
 /// The product of each lane and the factor of the table. A product is linear: it is the sum of those with the low and
 /// with the high half of the lane. The table has all that is needed of the factor: its products with the sixteen low
-/// nibbles, and with the sixteen high ones.
+/// nibbles, and with the sixteen high ones. `thirds` and `fifths` call this and not `multiple`, since their contracts
+/// cite `HasLanes` too.
 #[inline(always)]
 pub fn times(table: &[[u8; 16]; 2], lanes: u8x32) -> u8x32
     ensures { (factor : ℕ) → IsTable factor table.now → HasLanes result (λ k. product (slice_index lanes k) factor) }
@@ -79,7 +81,8 @@ pub fn times(table: &[[u8; 16]; 2], lanes: u8x32) -> u8x32
     )
 }
 
-/// The product of each lane and a factor. It is public for other crates, which have no tables.
+/// The product of each lane and a factor. It is public for other crates, which have no tables: that of the factor is
+/// looked up once, and serves all lanes.
 #[inline(always)]
 pub fn multiple(lanes: u8x32, factor: u8) -> u8x32
     ensures size { length result ≡ 32 }
@@ -88,7 +91,7 @@ pub fn multiple(lanes: u8x32, factor: u8) -> u8x32
     times(&products(factor), lanes)
 }
 
-/// The sum of a vector and a multiple of another.
+/// The sum of a vector and a multiple of another: the step of each sum of multiples, here in `parity` and in decoders.
 #[inline(always)]
 pub fn with_multiple(sum: u8x32, lanes: u8x32, factor: u8) -> u8x32
     ensures size { length result ≡ 32 }
@@ -106,8 +109,8 @@ fn either(a: u8x32, b: u8x32) -> u8x32
     a | b
 }
 
-// The table's entries at the low four bits of each lane. A look-up asks for numbers below sixteen, so the others are
-// cleared.
+// The table's entries at the low four bits of each lane. A look-up asks for numbers below sixteen, so the high four
+// bits are cleared.
 #[inline(always)]
 fn by_low_nibble(table: &[u8; 16], lanes: u8x32) -> u8x32
     ensures { HasLanes result (λ k. slice_index table.now (slice_index lanes k % 16)) }
@@ -115,7 +118,8 @@ fn by_low_nibble(table: &[u8; 16], lanes: u8x32) -> u8x32
     twice(table).swizzle_dyn_within::<16>(lanes & u8x32::splat(15))
 }
 
-// The table's entries at the high four bits of each lane. A shift by four leaves no others.
+// The table's entries at the high four bits of each lane. A look-up asks for numbers below sixteen: a shift of a byte
+// by four leaves no greater ones, so nothing is cleared.
 #[inline(always)]
 fn by_high_nibble(table: &[u8; 16], lanes: u8x32) -> u8x32
     ensures { HasLanes result (λ k. slice_index table.now (slice_index lanes k / 16)) }

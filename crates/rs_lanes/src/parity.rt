@@ -31,7 +31,7 @@ pub fn parity_of<const R: usize>(matrix: &[[u8; R]; R], values: &[u8x32; R]) -> 
 }
 
 // Adds to each place `i` the value with number `k`, times entry `k` of row `i`: so all lanes get a multiple of column
-// `k`.
+// `k`. It is a function of its own, so that each proof has one loop.
 #[inline(always)]
 fn add_multiples<const R: usize>(
     matrix: &[[u8; R]; R],

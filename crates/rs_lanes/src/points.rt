@@ -22,6 +22,7 @@ pub fn scaled(lanes: u8x16, factor: u8) -> u8x16
 
 /// The powers of alpha^`exponent`: lane `k` is alpha^(`exponent` k). Times a byte, they are what it adds to the values
 /// of its word at alpha^0 to alpha^15 from the place with this exponent. The table has 255 rows, since alpha^255 is 1.
+/// Callers have the exponent of a term or a logarithm, which is below 255, so nothing is reduced here.
 #[inline(always)]
 pub fn powers(exponent: usize) -> u8x16
     requires { exponent < 255 }
@@ -31,8 +32,8 @@ pub fn powers(exponent: usize) -> u8x16
     u8x16::from_array(powers_of(exponent))
 }
 
-// The table's entries at the low four bits of each lane. A look-up asks for numbers below sixteen, so the others are
-// cleared.
+// The table's entries at the low four bits of each lane. A look-up asks for numbers below sixteen, so the high four
+// bits are cleared. The table is not put in a vector twice, as in `lanes`: sixteen lanes reach all of its entries.
 #[inline(always)]
 fn at_low_nibbles(table: &[u8; 16], lanes: u8x16) -> u8x16
     ensures { HoldsLanes 16 result (λ k. slice_index table.now (slice_index lanes k % 16)) }

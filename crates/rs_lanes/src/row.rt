@@ -3,7 +3,8 @@ ghost use Rattle.std.specs.Prelude.{◌≡◌, ℕ, List};
 
 /// A row of a block, with or without more than its bytes.
 /// What a decoder answers for a row has its bytes and what was corrected. The columns of such answers are tested in
-/// place, without a copy of the bytes.
+/// place, without a copy of the bytes. So two types have this trait: arrays, and the answers of dvd_capture. Contracts
+/// speak of the bytes of both by `word`.
 pub trait Row {
     // The bytes as contracts speak of them.
     ghost word: { Self → List ℕ };

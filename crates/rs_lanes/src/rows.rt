@@ -22,7 +22,7 @@ use crate::transposing::transpose;
 use std::simd::prelude::*;
 
 /// Sets the last ten bytes of the 32 rows from `top` on so that these rows are codewords. All else stays. The ten bytes
-/// that were there aren't read.
+/// that were there aren't read. Callers with fewer than 32 rows put them in 32 of their own, since all lanes are done.
 pub fn inner_parity(rows: &mut [[u8; 182]], top: usize)
     requires { top + 32 ≤ length rows.old }
     ensures size { length rows.new ≡ length rows.old }
@@ -43,7 +43,8 @@ pub fn inner_parity(rows: &mut [[u8; 182]], top: usize)
 
 /// The values of the 32 rows from `top` on at alpha^0 to alpha^9, a vector for each of these powers: that of row
 /// `top + n` is in lane `n`. A row is a codeword where all are 0, and for a decoder they are the syndromes.
-/// Also ensures that the rows are 182 bytes each, since of rows in a list callers don't know it.
+/// Also ensures that the rows are 182 bytes each, since of rows in a list callers don't know it. The rows are a whole
+/// block for callers, whose last 32 begin at row 176, and share some with the group before.
 pub fn row_values(rows: &[[u8; 182]], top: usize) -> [u8x32; 10]
     requires { top + 32 ≤ length rows.now }
     ensures sizes { (n : ℕ) → n < 32 → length (line rows.now (top + n)) ≡ 182 }
@@ -116,7 +117,8 @@ fn padded(transposed: &[u8x32; 182], count: usize, at: usize) -> u8x32
     }
 }
 
-// The vector of a place below `count`, or zeros: from there on the parity comes, in whose place zeros are read.
+// The vector of a place below `count`, or zeros: from there on the parity comes, in whose place zeros are read. `count`
+// is a constant where this is inlined, so that few places need a test then.
 #[inline(always)]
 fn lanes_or_zeros(transposed: &[u8x32; 182], count: usize, at: usize) -> u8x32
     requires { count ≤ 182 }

@@ -37,6 +37,7 @@ pub fn thirds_of(a: u8x32, b: u8x32, c: u8x32) -> [u8x32; 3]
 
 /// The values of each lane's word at alpha^0 to alpha^(`R` - 1): ten for a row, and sixteen for a column. The clause
 /// speaks of the third that serves each power, as the word isn't known here. Callers' thirds have the word's values.
+/// `R` is at most sixteen, since the three thirds serve fifteen exponents, and alpha^15 has steps of its own.
 #[inline(always)]
 pub fn values_of<const R: usize>(thirds: &[[u8x32; 3]; 85]) -> [u8x32; R]
     requires { R ≤ 16 }
@@ -96,7 +97,8 @@ fn values(thirds: &[[u8x32; 3]; 85], i: usize, count: usize) -> [u8x32; 5]
 }
 
 // The value of each lane's word at alpha^15. The 17th power of alpha^15 is 1, so the five pieces are added up as for
-// alpha^0: the first of the five sums is read, and the count 16 only lets the step for 15 be taken.
+// alpha^0: the first of the five sums is read, and the count 16 only lets the step for 15 be taken. `values` has room
+// for five exponents alone, so these sums are made once more.
 #[inline(always)]
 fn last_value(thirds: &[[u8x32; 3]; 85]) -> u8x32
     ensures { HasLanes result (λ j. value (third thirds.now 0 j) (power alpha 15)) }
@@ -108,8 +110,8 @@ fn last_value(thirds: &[[u8x32; 3]; 85]) -> u8x32
     value
 }
 
-// A step of Horner's rule at each exponent of a third that is below `count`; the other values stay. Also ensures that
-// the next lanes are bytes.
+// A step of Horner's rule at each exponent of a third that is below `count`; the other values stay. `next` has the next
+// place of the pieces, as it was added up for each exponent. Also ensures that its lanes are bytes.
 #[inline(always)]
 fn read_places(values: &mut [u8x32; 5], next: &[u8x32; 5], i: usize, count: usize)
     requires { i < 3 }
@@ -123,7 +125,8 @@ fn read_places(values: &mut [u8x32; 5], next: &[u8x32; 5], i: usize, count: usiz
 }
 
 // A step of Horner's rule at alpha^`k`, where `k` is below `count`; else the value as it is, and no product is spent.
-// Both numbers are constants after inlining. Also ensures that the next lanes are bytes, of either case.
+// Both numbers are constants after inlining, so that no test is left. Also ensures that the next lanes are bytes, in
+// both cases. `powers_of(1)` has alpha^0 to alpha^15, so `k` is below sixteen.
 #[inline(always)]
 fn next_value(k: usize, count: usize, value: u8x32, next: u8x32) -> u8x32
     requires { k < 16 }

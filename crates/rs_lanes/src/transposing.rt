@@ -14,7 +14,8 @@ use crate::row::Row;
 use std::simd::prelude::*;
 
 // Sets all vectors to the places of the 32 rows from `top` on. Also ensures that these rows have 182 places, as callers
-// know it of no row in a list. What the vectors had isn't read.
+// know it of no row in a list. What the vectors had isn't read. They are put where the caller has them, so that 5,824
+// bytes needn't be copied. Only `rows` needs all places at once, so it is for this crate alone.
 pub(crate) fn transpose<T: Row>(rows: &[T], top: usize, transposed: &mut [u8x32; 182])
     requires { top + 32 ≤ length rows.now }
     ensures sizes { (n : ℕ) → n < 32 → length (line (map T.word rows.now) (top + n)) ≡ 182 }
@@ -92,8 +93,9 @@ fn pair_at(one: &[u8; 182], other: &[u8; 182], at: usize) -> u8x32
     load_pair(one, other, at)
 }
 
-// Sixteen bytes of each of two slices, from `at` on, one after the other. It is about slices of any length: that the
-// arrays of `pair_at` are long enough follows from their own length.
+// Sixteen bytes of each of two slices, from `at` on, one after the other: in a shuffle the lanes of the second vector
+// are numbered from 16 on. It is about slices of any length: that the arrays of `pair_at` are long enough follows from
+// their own length.
 #[inline(always)]
 fn load_pair(one: &[u8], other: &[u8], at: usize) -> u8x32
     requires one { at + 16 ≤ length one.now }
@@ -124,7 +126,7 @@ fn transpose_tile(tile: &[u8x32; 16]) -> [u8x32; 16]
 
 // One of four equal steps: vectors `k` and `k + 8` become vectors `2 k` and `2 k + 1`, where their lanes alternate: the
 // first eight of each half in one, and the last eight in the other. No lane leaves its half, so that both halves are
-// transposed at once.
+// transposed at once. A new tile is made: in place a step would overwrite vectors that it has yet to read.
 #[inline(always)]
 fn riffle(tile: &[u8x32; 16]) -> [u8x32; 16]
     requires { EachIndex tile.now (λ k. length (line tile.now k) ≡ 32) }
@@ -158,7 +160,8 @@ fn first_lanes(a: u8x32, b: u8x32) -> u8x32
     )
 }
 
-// The last eight lanes of each half of two vectors, alternating, likewise.
+// The last eight lanes of each half of two vectors, alternating, likewise: the lanes 8 to 15 and 24 to 31 of `a`, and
+// those of `b`, which are numbered from 32 on.
 #[inline(always)]
 fn last_lanes(a: u8x32, b: u8x32) -> u8x32
     requires a { length a ≡ 32 }
