@@ -9,7 +9,8 @@ use std::simd::prelude::*;
 
 /// Sets the bytes at these points. A point 0 means none: it becomes 1, the point of a row's last place, and its byte
 /// becomes 0, so that adding it changes nothing. All other points stay. Syndromes and taps, the locator's coefficients
-/// after its first, are pairs of nibbles as in `tower`; points and amounts are bytes as in a row.
+/// after its first, are pairs of nibbles as in `tower`; points and amounts are bytes as in a row. Both results are put
+/// where the caller has them, since points are changed in place.
 pub fn put_amounts(
     syndromes: &[u8x32; 10],
     syndrome_logs: &[Logs; 10],

@@ -29,6 +29,7 @@ pub fn locators(syndromes: &[u8x32; 10], syndrome_logs: &[Logs; 10]) -> [u8x32; 
         add_multiples(&mut taps, &factor, &earlier, at + 1);
         let grows = grow_at(at, missed, lengths);
         shift(&mut earlier, &tap_logs, grows);
+        // A discrepancy 0 has no inverse, but there no register gets longer.
         divisor = chosen(grows, &inverse(&missed_logs), &divisor);
         // The syndromes so far, less the length before: no register that generates this one too is shorter.
         lengths = grows.select(u8x32::splat(at as u8 + 1) - lengths, lengths);
@@ -67,7 +68,8 @@ pub fn sum_at(
     sum
 }
 
-// Whether a register gets longer: where its discrepancy isn't 0, and it isn't longer than half of the syndromes so far.
+// Whether a register gets longer: where its discrepancy isn't 0, and it isn't longer than half of the `at` syndromes
+// before this one. A longer register keeps its length, since one of this length generates this syndrome too.
 // A mask, since each lane has its own answer and lanes can't branch.
 #[inline(always)]
 fn grow_at(at: usize, missed: u8x32, lengths: u8x32) -> mask8x32

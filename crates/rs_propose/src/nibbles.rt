@@ -1,6 +1,7 @@
 //! Look-ups in tables of sixteen bytes, in each lane. There are no clauses on what is found, since all of it goes into
-//! proposals, which are tested. It is proved that each look-up asks only for what a table answers. All is inlined, so
-//! that vectors needn't pass through memory.
+//! proposals, which are tested. It is proved that each look-up asks only for what a table answers. Those of
+//! rs_lanes have clauses on each lane, and are private there. All is inlined, so that vectors needn't pass through
+//! memory.
 use std::simd::prelude::*;
 
 /// The table's entry at each lane, and 0 at lanes from 128 on, which serve as logarithms of 0. Lanes from 16 to 127
@@ -11,13 +12,14 @@ pub fn look_up(table: &[u8; 16], places: u8x32) -> u8x32 {
     twice(table).swizzle_dyn_within::<16>(places & u8x32::splat(0x8F))
 }
 
-/// The table's entries at the low four bits of each lane.
+/// The table's entries at the low four bits of each lane. A look-up asks for lanes below sixteen, so the high four bits
+/// are cleared.
 #[inline(always)]
 pub fn at_low_nibbles(table: &[u8; 16], lanes: u8x32) -> u8x32 {
     twice(table).swizzle_dyn_within::<16>(lanes & u8x32::splat(15))
 }
 
-/// The table's entries at the high four bits of each lane.
+/// The table's entries at the high four bits of each lane. A shift of a byte by four leaves lanes below sixteen.
 #[inline(always)]
 pub fn at_high_nibbles(table: &[u8; 16], lanes: u8x32) -> u8x32 {
     twice(table).swizzle_dyn_within::<16>(lanes >> u8x32::splat(4))

@@ -40,7 +40,9 @@ impl Proposals {
 
     /// Makes proposals for rows that have these values at alpha^0 to alpha^9: lane `n` has those of row `n`. They are
     /// right for rows with at most five errors; tests show this, and no contract says it, since `believe` tests each.
-    /// All go through all steps, codewords too, since lanes can't branch. Earlier proposals are all overwritten.
+    /// All go through all steps, codewords too, since lanes can't branch. Earlier proposals are all overwritten. In
+    /// between, numbers are pairs of nibbles, in which `tower` has products of lanes; `roots` alone needs the locators
+    /// as bytes. The logarithms of the syndromes are found once, for both steps that multiply by them.
     pub fn propose(&mut self, values: &[u8x32; 10]) {
         let mut syndromes = [u8x32::splat(0); 10];
         let mut syndrome_logs = [logs_of_zero(); 10];
@@ -66,7 +68,8 @@ impl Proposals {
     /// this is right. It is right if its bytes have the syndromes as their power sums: the row with these bytes added
     /// is then a codeword. This codeword is near the row, since at most five places differ. Otherwise the result is
     /// `None`, and `row` may be anything: callers then decode the received row, which stays. The syndromes are passed,
-    /// since callers have them from the values that the proposals were made by.
+    /// since callers have them from the values that the proposals were made by. The power sums are found by the five
+    /// bytes alone, so that the row isn't read for them.
     pub fn believe(
         &self,
         n: usize,
@@ -80,6 +83,8 @@ impl Proposals {
         ensures errors { IfSome result (λ fix. fix.errors ≡ error_count received.now row.new (replicate 182 false)) }
         ensures erased { IfSome result (λ fix. fix.erased ≡ marked (replicate 182 false)) }
     {
+        // The bytes are added to a copy: the received row is what errors are counted by, and what a caller decodes
+        // else.
         *row = *received;
         let mut errors = 0;
         let mut sums = u8x16::splat(0);
@@ -96,9 +101,10 @@ impl Proposals {
     }
 }
 
-// The place in a row whose power of alpha this is, if there is one: the last place has the exponent 0. A row with at
-// most five errors has no other points. 0 is no power; it isn't proposed, but only this test shows that. It is inlined,
-// as all that `believe` does for each of five bytes is.
+// The place in a row whose power of alpha this is, if there is one: the last place, 181, has the exponent 0. Exponents
+// from 182 to 254 are of no place in a row, and no row with at most five errors has them. 0 is no power; it isn't
+// proposed, but only this test shows that, and `log` needs it. It is inlined, as all that `believe` does for each of
+// five bytes is.
 #[inline(always)]
 fn place_of(point: u8) -> Option<usize>
     ensures { IfSome result (λ place. place < 182) }
@@ -110,7 +116,8 @@ fn place_of(point: u8) -> Option<usize>
 }
 
 // The power sums with one more byte, which is at a place of a row: sum `k` gets the byte times the place's power of
-// alpha, to the power k. All sixteen lanes are computed at once, of which the first ten are compared.
+// alpha, to the power k. All sixteen lanes are computed at once, of which the first ten are compared. The place is
+// passed and not its point, since `powers` goes by exponents: that of a place is 181 less its number.
 #[inline(always)]
 fn with_byte(sums: u8x16, place: usize, byte: u8) -> u8x16
     requires { place < 182 }

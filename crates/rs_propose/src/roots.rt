@@ -69,7 +69,9 @@ pub fn roots(taps: &[u8x32; 5]) -> [u8x32; 5] {
 }
 
 // Likewise for sixteen polynomials. What changes with each point then fits into sixteen registers of sixteen lanes, as
-// processors without vectors of 32 bytes have them. `value` and `point` stay at lower bits 0, where each walk begins.
+// processors without vectors of 32 bytes have them. `value` and `point` stay at lower bits 0, where each walk begins:
+// at the point 0 the value is the coefficient of x^0. The first walk has no upper bit; each step changes one of bits 4
+// to 7.
 fn roots_of_half(taps: &[u8x16; 5]) -> [u8x16; 5] {
     let mut found = [u8x16::splat(0); 5];
     let pairs = pairs_of(taps[1]);
@@ -92,7 +94,7 @@ fn roots_of_half(taps: &[u8x16; 5]) -> [u8x16; 5] {
     found
 }
 
-// Joins two halves to a vector.
+// Joins two halves to a vector: in a shuffle the lanes of the second one are numbered from 16 on.
 #[inline(always)]
 fn joined(lower: u8x16, upper: u8x16) -> u8x32 {
     lower.shuffle(
@@ -143,7 +145,8 @@ fn pairs_of(cubic: u8x16) -> [[u8x16; 8]; 8] {
 }
 
 // The changes of the values with each step over the lower four bits, where no upper one is set. They are the same for
-// all upper bits, but for what a bit shares with those. So they are computed once.
+// all upper bits, but for what a bit shares with those. So they are computed once. Entry `step` is for that step; steps
+// begin at 1, and entry 0 isn't read.
 #[inline(always)]
 fn inner_changes(singles: &[u8x16; 8], pairs: &[[u8x16; 8]; 8]) -> [u8x16; 16] {
     let mut changes = *singles;
@@ -168,6 +171,7 @@ fn turn(changes: &mut [u8x16; 8], pairs: &[u8x16; 8]) {
 // Walks the sixteen points with the same upper bits: four times four, each of which changes bit 0, bit 1 and bit 0. The
 // value and the point are copies: the caller's stay where the lower bits are 0. A step adds its change without upper
 // bits, from `inner`, and what its bit shares with the upper bits that are set, from `changes`. Zeros go to `found`.
+// Step `4 four` changes bit 2 or 3, which the bit of `four` in Gray's order says; the remainder keeps it below four.
 #[inline(always)]
 fn walk(
     found: &mut [u8x16; 5],
@@ -188,7 +192,8 @@ fn walk(
 }
 
 // Walks four points with the same upper six bits, and leaves `value` and `point` at the last. All four values are at
-// hand before any is tested, so that one test serves them.
+// hand before any is tested, so that one test serves them. `four` is the number of the four among those of a walk: its
+// three steps, `4 four + 1` to `4 four + 3`, change bit 0, bit 1 and bit 0.
 #[inline(always)]
 fn walk_four(
     found: &mut [u8x16; 5],
@@ -213,7 +218,8 @@ fn walk_four(
 }
 
 // Puts those of four points where the value is 0 before those found, in each lane. A lane seldom has two of them. So
-// each lane that has one gets it at once, and only where a lane has two are the points put one by one.
+// each lane that has one gets it at once, and only where a lane has two are the points put one by one. `point` begins
+// with the first point, zero or not: only lanes of `any` read it.
 #[inline(always)]
 fn note_four(found: &mut [u8x16; 5], values: &[u8x16; 4], points: &[u8x16; 4]) {
     let zero = u8x16::splat(0);
@@ -242,7 +248,8 @@ fn note_each(found: &mut [u8x16; 5], values: &[u8x16; 4], points: &[u8x16; 4]) {
 }
 
 // Puts a point before those found, in each lane that is chosen. All five move up in each lane alike, without a branch
-// or a place that is counted. From the last on, so that each is read before it is overwritten; the fifth is lost.
+// or a place that is counted. From the last on, so that each is read before it is overwritten. The fifth is lost: it is
+// still 0, as a polynomial of degree 5 has at most five zeros.
 #[inline(always)]
 fn put(found: &mut [u8x16; 5], chosen: mask8x16, point: u8x16) {
     for k in 0..4 {

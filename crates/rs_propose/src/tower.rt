@@ -120,13 +120,13 @@ static SQUARES: [[u8; 16]; 2] = [
     ],
 ];
 
-/// Bytes as pairs of nibbles.
+/// Bytes as pairs of nibbles. The change is linear over the bits, so two tables of sixteen do it.
 #[inline(always)]
 pub fn pairs(bytes: u8x32) -> u8x32 {
     mapped(&PAIRS, bytes)
 }
 
-/// Pairs of nibbles as bytes.
+/// Pairs of nibbles as bytes, likewise.
 #[inline(always)]
 pub fn bytes(pairs: u8x32) -> u8x32 {
     mapped(&BYTES, pairs)
@@ -149,13 +149,13 @@ pub fn logs(pairs: u8x32) -> Logs {
     ]
 }
 
-/// The logarithms of 1.
+/// The logarithms of 1, whose high nibble is 0 and whose low nibble is 1: so the sum of both is 1, too.
 #[inline(always)]
 pub fn logs_of_one() -> Logs {
     [u8x32::splat(LOG_OF_ZERO), u8x32::splat(0), u8x32::splat(0)]
 }
 
-/// The logarithms of 0.
+/// The logarithms of 0: both nibbles and their sum are 0.
 #[inline(always)]
 pub fn logs_of_zero() -> Logs {
     [u8x32::splat(LOG_OF_ZERO); 3]
@@ -184,7 +184,7 @@ pub fn inverse(a: &Logs) -> Logs {
     ]
 }
 
-/// In each lane, the first or the second logarithms.
+/// In each lane the first logarithms where `choice` is set, else the second. All three vectors of a number go together.
 #[inline(always)]
 pub fn chosen(choice: mask8x32, first: &Logs, second: &Logs) -> Logs {
     [
@@ -195,7 +195,8 @@ pub fn chosen(choice: mask8x32, first: &Logs, second: &Logs) -> Logs {
 }
 
 // The logarithms of products, by those of the factors: their sums, less fifteen where these aren't below fifteen. Below
-// fifteen the subtraction wraps round to more than the sum itself, so that the least is the right one.
+// fifteen the subtraction wraps round to more than the sum itself, so that the least is the right one. With a logarithm
+// of 0 the result is 128 or more, so that a look-up there gives 0.
 #[inline(always)]
 fn joined(a: u8x32, b: u8x32) -> u8x32 {
     let sums = a + b;
