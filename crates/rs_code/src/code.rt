@@ -25,7 +25,8 @@ pub type Ied = Code<6, 2>;
 #[derive(Drop)]
 pub struct Code<const N: usize, const R: usize> {
     /// The generator polynomial without its leading 1, the highest power first. Codes with 10 or 16 parity bytes divide
-    /// by tables and don't use it.
+    /// by tables and don't use it: they have it for the ghost fields, which say of every code that its generator has
+    /// its roots.
     generator: ArrayVec<u8, 32>,
     /// A word has 1 to 32 parity bytes, at least one byte more, and at most 255 in all. It is public, as the proofs of
     /// decoders need it; the other two are for this crate.
@@ -66,7 +67,8 @@ impl<const N: usize, const R: usize> Code<N, R> {
         evaluation::syndromes(&self.remainder(word), R)
     }
 
-    /// Whether `word` is a codeword. A codeword is a multiple of the generator, so that no remainder is left.
+    /// Whether `word` is a codeword. A codeword is a multiple of the generator, so that no remainder is left. That is
+    /// less work than the values at each root.
     pub fn is_codeword(&self, word: &[u8; N]) -> bool
         ensures { IsTrue result ↔ IsCodeword N R word.now }
     {
@@ -91,7 +93,7 @@ impl<const N: usize, const R: usize> Code<N, R> {
 
     // Sets `parity` so that it makes a codeword with `message`: by tables for the codes of an ECC block, else by the
     // generator. It is the remainder of the message, moved up by `R` places. What `parity` had isn't read. Also ensures
-    // that the elements of `message` are bytes.
+    // that the elements of `message` are bytes. `message` is a slice, since a type can't say `N - R`.
     fn divide(&self, message: &[u8], parity: &mut [u8])
         requires fits { length parity.old ≡ R }
         ensures codeword { IsCodeword (length message.now + R) R (message.now ++ parity.new) }

@@ -1,5 +1,6 @@
-//! The generator polynomial, and the division by it, for codes with any number of parity bytes up to 32. `register` is
-//! faster, and has tables for two codes alone.
+//! The generator polynomial, and the division by it, for codes with any number of parity bytes up to 32: an ID and the
+//! words of a CD-ROM sector have two, and the library has codes of its callers' choice. `register` is faster, and has
+//! tables for two codes alone.
 //! A polynomial with the leading coefficient 1 is stored without it.
 ghost use Rattle.std.specs.Prelude.{◌≡◌, ℕ, ◌-◌, ◌<◌, ◌≤◌, List, [], ◌∷◌, ◌++◌, length, All};
 ghost use Rattle.arrayvec.specs.ArrayVec.{array_vec_len};
@@ -19,7 +20,7 @@ static PO_GENERATOR: [u8; 16] = [
 ];
 
 /// The product of (x + alpha^k) for k from 0 to `parity` - 1, without its leading 1. The list has room for 32, so that
-/// ten and sixteen always fit.
+/// ten and sixteen always fit, and no `unwrap` fails.
 pub fn generator(parity: u8) -> ArrayVec<u8, 32>
     requires { parity ≤ 32 }
     ensures degree { array_vec_len result ≡ parity }
@@ -33,7 +34,8 @@ pub fn generator(parity: u8) -> ArrayVec<u8, 32>
 }
 
 // The same product, computed factor by factor: those by alpha^0, alpha^1 and so on, where alpha is 2. A polynomial 1
-// has no stored coefficient, so it begins with none.
+// has no stored coefficient, so it begins with none. Before each factor a 0 is pushed, since the product has one
+// coefficient more.
 fn product_of_factors(parity: u8) -> ArrayVec<u8, 32>
     requires { parity ≤ 32 }
     ensures degree { array_vec_len result ≡ parity }
@@ -49,8 +51,8 @@ fn product_of_factors(parity: u8) -> ArrayVec<u8, 32>
     coefficients
 }
 
-/// Multiplies a polynomial by (x + `root`), in place. A 0 comes after it, since the product has one coefficient more.
-/// Each coefficient becomes itself plus the root times the one before it, which is kept, as it has been overwritten.
+// Multiplies a polynomial by (x + `root`), in place. A 0 comes after it, since the product has one coefficient more.
+// Each coefficient becomes itself plus the root times the one before it, which is kept, as it has been overwritten.
 fn multiply_by_root(coefficients: &mut [u8], root: u8)
     ensures { (polynomial : List ℕ) → coefficients.old ≡ polynomial ++ 0 ∷ [] → coefficients.new ≡ times_root polynomial root }
 {
@@ -78,9 +80,9 @@ pub fn divide(generator: &[u8], message: &[u8], register: &mut [u8])
     }
 }
 
-/// One step of the division: reads one more byte. The sum of the byte and the one that leaves the register is the
-/// leading coefficient. The multiple of the generator that has the same one is added, which cancels it. Upwards, so
-/// that each byte is read before it is overwritten.
+// One step of the division: reads one more byte. The sum of the byte and the one that leaves the register is the
+// leading coefficient. The multiple of the generator that has the same one is added, which cancels it. Upwards, so
+// that each byte is read before it is overwritten. Nothing moves into the last place, so it gets the multiple alone.
 fn read_byte(generator: &[u8], register: &mut [u8], byte: u8)
     requires some_degree { 0 < length generator.now }
     requires fits { length register.old ≡ length generator.now }

@@ -10,6 +10,7 @@ use arrayvec::ArrayVec;
 use gf_field::{alpha_pow, log};
 
 /// The values of a word at alpha^0 to alpha^(`parity` - 1), in this order: its syndromes, for a code of `parity` roots.
+/// They are in a list with room for 32, the most that a code here has, so that no memory is taken.
 pub fn syndromes(word: &[u8], parity: usize) -> ArrayVec<u8, 32>
     requires few { length word.now ≤ 32 }
     requires parity { parity ≤ 32 }

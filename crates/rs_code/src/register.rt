@@ -12,9 +12,9 @@ ghost use Rattle.rs_code.specs.Inner.Polynomials.{IsRemainder};
 ghost use Rattle.rs_code.specs.Inner.Registers.{AreTables, after_bytes, register_bytes};
 
 /// Sets `parity` to the remainder of `message` by the generator whose tables these are. Also ensures that the elements
-/// of `message` are bytes. The messages of both codes of a block, 172 and 192 bytes, are whole words of four. Others
-/// may have up to three bytes more, which are read one by one. What `parity` had isn't read. `some_parity` is for the
-/// proof: the code would do for none too. Sixteen bytes are what 128 bits hold.
+/// of `message` are bytes. The messages of both codes of a block, 172 and 192 bytes, are whole words of four. Others,
+/// as those of words of 255 bytes, may have up to three bytes more, which are read one by one. What `parity` had isn't
+/// read. `some_parity` is for the proof: the code would do for none too. Sixteen bytes are what 128 bits hold.
 #[inline]
 pub fn divide(tables: &[[u128; 256]; 4], message: &[u8], parity: &mut [u8])
     requires some_parity { 0 < length parity.old }
@@ -29,7 +29,7 @@ pub fn divide(tables: &[[u128; 256]; 4], message: &[u8], parity: &mut [u8])
     );
 }
 
-/// Writes the first `parity.len()` bytes of a register, which are all that a remainder of this length has.
+// Writes the first `parity.len()` bytes of a register, which are all that a remainder of this length has.
 #[inline]
 fn put_register(register: u128, parity: &mut [u8])
     requires { length parity.old ≤ 16 }
@@ -39,8 +39,8 @@ fn put_register(register: u128, parity: &mut [u8])
     parity.copy_from_slice(&register.to_be_bytes()[..size]);
 }
 
-/// The register after these words of four bytes. What is said of it is what the bytes after them come to, so that one
-/// step follows another in a proof.
+// The register after these words of four bytes. What is said of it is what the bytes after them come to, so that one
+// step follows another in a proof. The division begins with the register 0.
 #[inline]
 fn with_words(tables: &[[u128; 256]; 4], register: u128, words: &[[u8; 4]]) -> u128
     ensures { (generator : List ℕ) → AreTables generator tables.now → (rest : List ℕ)
@@ -53,7 +53,7 @@ fn with_words(tables: &[[u128; 256]; 4], register: u128, words: &[[u8; 4]]) -> u
     next
 }
 
-/// The register after these bytes, of which the table of single bytes is enough.
+// The register after these bytes, of which the table of single bytes is enough: `divide` has at most three.
 #[inline]
 fn with_bytes(tables: &[[u128; 256]; 4], register: u128, bytes: &[u8]) -> u128
     ensures { (rest : List ℕ) → after_bytes (slice_index_or tables.now 0 []) result rest ≡ after_bytes (slice_index_or tables.now 0 []) register (bytes.now ++ rest) }
@@ -65,9 +65,9 @@ fn with_bytes(tables: &[[u128; 256]; 4], register: u128, bytes: &[u8]) -> u128
     next
 }
 
-/// Four steps of the division in one. No look-up depends on another. The first of the four goes through three more
-/// steps than the last, so each has a table of its own. Their sum is added to what the register has after its four
-/// upper bytes left.
+// Four steps of the division in one. No look-up depends on another. The first of the four goes through three more steps
+// than the last, so each has a table of its own: table 3 for the first, and table 0 for the last. Their sum is added to
+// what the register has after its four upper bytes left. `upper` is of the first two bytes, and `back` of the last two.
 #[inline]
 fn with_word(tables: &[[u128; 256]; 4], register: u128, word: [u8; 4]) -> u128
     ensures { (generator : List ℕ) → AreTables generator tables.now → (rest : List ℕ)
@@ -79,8 +79,8 @@ fn with_word(tables: &[[u128; 256]; 4], register: u128, word: [u8; 4]) -> u128
     (register << 32) ^ upper ^ back
 }
 
-/// One step of the division: reads one more byte. The upper byte leaves. Its sum with the byte that is read says which
-/// multiple of the generator cancels it.
+// One step of the division: reads one more byte. The upper byte leaves. Its sum with the byte that is read says which
+// multiple of the generator cancels it.
 #[inline]
 #[tactic(auto, unfolding(crate::specs::Inner::Registers::after_byte, crate::specs::Inner::Registers::after_bytes))]
 fn with_byte(table: &[u128; 256], register: u128, byte: u8) -> u128

@@ -1,9 +1,12 @@
 //! The multiples of the generators of the two codes of an ECC block, as registers: numbers of 128 bits whose first byte
 //! is highest, with zeros after the ten bytes of the shorter one. That all are right is proved by computing them.
 //! A multiple is linear in its factor: it is the sum of those by the powers of two that make up the factor. So the
-//! eight numbers at 1, 2, 4, .. 128 span a table.
+//! eight numbers at 1, 2, 4, .. 128 span a table. Table 0 has what a byte adds to the register at once. In table 1, 2
+//! and 3 that is divided on for one, two and three zero bytes more, so that four bytes are read in one step. 128 bits
+//! hold the sixteen bytes of the longer remainder.
 
-// The 256 sums of eight numbers: at each byte, the sum of those whose bits it has, the lowest bit first.
+// The 256 sums of eight numbers: at each byte, the sum of those whose bits it has, the lowest bit first. It begins with
+// 0 alone, and each number doubles the list: the sums so far, and then the same with that number added.
 macro_rules! sums {
     ([$($sum:expr),*]) => { [$($sum),*] };
     ([$($sum:expr),*] $number:literal $($more:literal)*) => { sums!([$($sum,)* $($sum ^ $number),*] $($more)*) };
