@@ -39,7 +39,7 @@ impl SpansDraft {
         ensures rule { IfErr result (IsStopOf (line_read good.now (read_of self.old) (line_fields line.now))) }
     {
         let fields = line_fields(line);
-        // A comment alone, or an empty line.
+        // A comment alone, or an empty line: it says nothing, wherever it comes.
         if fields.first.is_empty() {
             return Ok(());
         }
@@ -57,7 +57,8 @@ impl SpansDraft {
         Ok(())
     }
 
-    // Adds the span of a block; before that of the first block, one for the bytes of which the map says nothing.
+    // Adds the span of a block; before that of the first block, one for the bytes of which the map says nothing. Spans
+    // have no beginning, so a gap or an overlap would give bytes to the wrong span: both are refused.
     fn add(&mut self, block: &MapBlock, good: &[u8]) -> Result<(), MapStop>
         ensures read { OnOk result (with_block good.now self.old.spans.items block.now ≡ Ok self.new.spans.items) }
         ensures same { OnOk result (self.new.opened ≡ self.old.opened) }
@@ -90,7 +91,8 @@ impl SpansDraft {
         }
     }
 
-    // The end of the last span, or this where there is none. So the first block begins anywhere.
+    // The end of the last span, or `position` where there is none. That is the first block's own, which so begins
+    // anywhere.
     fn end_after(&self, position: u64) -> u64
         ensures { result ≡ end_after position self.now.spans.items }
     {

@@ -1,6 +1,7 @@
 //! Lines, and the fields of a line between blanks. They are slices of the text, so that no memory is taken. A comment
 //! goes from `#` to the end of its line, also after fields. `draft` asks for the fields, and `map` for the length of a
-//! line. The clauses `bound` are for the callers, which cut the text at a count.
+//! line. Each length is a count of the bytes before the first that ends it, or of all: so a line or a field that ends
+//! with the text needs no case of its own. The clauses `bound` are for the callers, which cut the text at a count.
 ghost use Rattle.std.specs.Prelude.{◌≡◌, ◌≤◌, ◌==◌, ◌+◌, not, length};
 ghost use Rattle.std.specs.List.{prefix_len};
 ghost use Rattle.cap_map.specs.Fields.{after_field, blanks_of, field_length, first_field, is_blank, line_length, without_comment};
@@ -51,7 +52,7 @@ fn count_blanks(text: &[u8]) -> usize
     text.iter().take_while(|byte| is_blank(**byte)).count()
 }
 
-// How many bytes come before the first blank.
+// How many bytes come before the first blank: the length of a field, at whose first byte the text begins.
 fn count_others(text: &[u8]) -> usize
     ensures count { result ≡ field_length text.now }
     ensures bound { result ≤ length text.now }
@@ -67,7 +68,8 @@ fn comment_start(line: &[u8]) -> usize
     bytes_before(line, b'#')
 }
 
-/// How many bytes there are before the first line feed.
+/// How many bytes there are before the first line feed. Each line is cut off before it is read, so that no step after
+/// that has to look for its end.
 pub fn line_length(text: &[u8]) -> usize
     ensures count { result ≡ line_length text.now }
     ensures bound { result ≤ length text.now }

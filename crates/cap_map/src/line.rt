@@ -1,5 +1,8 @@
 //! What one line of a map says: the state of the run of ddrescue, or a block. Whether a block fits the one before it is
 //! asked in `draft`.
+//! A block has one of five statuses: `?` not tried yet, `*` failed and not trimmed, `/` failed and not scraped, `-`
+//! bad, `+` rescued. In the line of the state these name what the run was doing, and two more do: `F` filling, `G`
+//! generating a map.
 ghost use Rattle.std.specs.Prelude.{◌≡◌, ◌<◌, ◌^◌, IfOk};
 ghost use Rattle.cap_map.specs.Inner.{field_bytes};
 ghost use Rattle.cap_map.specs.Lines.{map_block, is_among, is_number, is_one_of, is_state, sized_block};
@@ -17,8 +20,8 @@ pub struct MapBlock {
     pub status: u8,
 }
 
-/// Whether these are the fields of the state. A position, a status and perhaps a pass, which a map may lack. A run has
-/// two statuses more than a block, `F` and `G`. Nothing of it is used: it only shows that the text is a map.
+/// Whether these are the fields of the state: a position, a status and perhaps a pass, a number that a map may lack. A
+/// run has two statuses more than a block. Nothing of it is used: it only shows that the text is a map.
 pub fn is_state(fields: &FieldsOf<'_>) -> bool
     ensures { result ≡ is_state (field_bytes fields.now) }
 {
@@ -29,7 +32,7 @@ pub fn is_state(fields: &FieldsOf<'_>) -> bool
         && fields.fourth.is_empty()
 }
 
-// Whether a field is a number, whatever its value.
+// Whether a field is a number, whatever its value below 2^63.
 fn is_number(field: &[u8]) -> bool
     ensures { result ≡ is_number field.now }
 {
@@ -37,7 +40,9 @@ fn is_number(field: &[u8]) -> bool
 }
 
 /// The block that these fields say, or the first rule that they break. They are tried in the order in which `MapCause`
-/// has them. `Fields` comes first, since a missing field is empty and would be no number or status.
+/// has them, so that the cause of a line that breaks several is always the same. `Fields` comes first, since a missing
+/// field is empty and would be no number or status. Those that `draft` finds, `Gap` and `Overlap`, need the block
+/// before.
 pub fn map_block(fields: &FieldsOf<'_>) -> Result<MapBlock, MapCause>
     ensures { result ≡ map_block (field_bytes fields.now) }
 {
@@ -77,7 +82,7 @@ fn sized_block(position: u64, size: u64, status: u8) -> Result<MapBlock, MapCaus
     })
 }
 
-// Whether a field is one of these bytes. A status is one character.
+// Whether a field is one of these bytes. A status is one character, so a field with two statuses is none.
 fn is_one_of(bytes: &[u8], field: &[u8]) -> bool
     ensures { result ≡ is_one_of bytes.now field.now }
 {

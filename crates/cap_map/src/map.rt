@@ -34,7 +34,7 @@ pub fn read_map(alloc: Global, text: &[u8], good: &[u8]) -> Result<Vec<Span>, Ma
         rest = after_line(rest, end);
         line += 1;
     }
-    // No line had a field, so the line that is missing is named.
+    // No line had a field, so the line that is missing is named: it would be the next one.
     if !draft.opened {
         return Err(MapFault::Rule {
             line,
@@ -44,7 +44,8 @@ pub fn read_map(alloc: Global, text: &[u8], good: &[u8]) -> Result<Vec<Span>, Ma
     Ok(draft.spans)
 }
 
-// What comes after a line of that length and its line feed. The last line may have none.
+// What comes after a line of that length and its line feed. The last line may have none: nothing comes after it, and
+// `end + 1` would be beyond the text.
 fn after_line<'a>(text: &'a [u8], end: usize) -> &'a [u8]
     ensures { result.now ≡ drop (end + 1) text.now }
 {

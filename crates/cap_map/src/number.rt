@@ -13,6 +13,7 @@ pub fn written_number(text: &[u8]) -> Option<u64>
     if begins_with_0x(text) {
         return digits_in(&text[2..], 16);
     }
+    // The 0 that marks octal stays: it is a digit that adds nothing, and 0 alone is then a number.
     let radix = if text.first() == Some(&b'0') { 8 } else { 10 };
     digits_in(text, radix)
 }
@@ -33,6 +34,7 @@ pub fn digits_in(text: &[u8], radix: u32) -> Option<u64>
     ensures value { result ≡ digits_in radix text.now }
     ensures below { IfSome result (λ n. n < 2 ^ 63) }
 {
+    // Without a digit the loop would give 0.
     if text.is_empty() {
         return None;
     }
