@@ -6,6 +6,10 @@
 //! the passes made of them. It is taken for a call and given back at its end. In the clauses 2 is the status NO_MEMORY,
 //! which may come of any block. The stage of a `Work` says how far it is: `Fetched` once a block was received, `Fixed`
 //! once two passes found one.
+//!
+//! The exports are public and keep their names (`no_mangle`), since C finds them by these. To C an array is a pointer,
+//! and `alloc` is no parameter: it is the memory of malloc. A `Work` is taken there: it is 150 KB, more than the stack
+//! that a caller has to leave.
 ghost use Rattle.std.specs.Prelude.{◌≡◌, ◌≢◌, ◌↔◌, ◌<◌, IsTrue};
 ghost use Rattle.coding.specs.Product.{IsParityAdded, IsProduct, line};
 ghost use Rattle.coding.specs.TwoPass.{answers_of};
@@ -45,7 +49,7 @@ pub extern "C" fn dvdecc_block_parity(rows: &mut [[u8; 182]; 208])
     fill_parity(rows);
 }
 
-/// Whether each row and each column of a block is a codeword.
+/// Whether each row and each column of a block is a codeword. All are tested, since C may hand over any bytes.
 #[unsafe(no_mangle)]
 pub extern "C" fn dvdecc_block_is_codeword(rows: &[[u8; 182]; 208]) -> bool
     ensures { IsTrue result ↔ IsProduct rows.now }
@@ -81,7 +85,8 @@ pub(crate) fn receive(capture: &[u8; 42640], work: &mut Work)
     ensures rows { rows_of work.new ≡ captured_rows Marked capture.now }
     ensures marks { marks_of_work work.new ≡ captured_marks Marked capture.now }
 {
-    // The answer is known: a list of so many bytes gives a whole block, and marks of this form break no rule.
+    // The answer is known: a list of so many bytes gives a whole block, and marks of this form break no rule. A source
+    // over the caller's bytes, since blocks are received from sources everywhere.
     let _answer = fetch(&mut SliceSource::new(capture), Form::Marked, work);
 }
 
@@ -102,7 +107,7 @@ fn decode_received(work: &mut Work, rows: &mut [[u8; 182]; 208], report: &mut Re
     }
 }
 
-// The report of a block that was found. It says what was corrected; only a cause has a number.
+// The report of a block that was found. It says what was corrected; only a cause has a number. `reading` calls it too.
 pub(crate) fn report_found(fixed: Fixed) -> Report
     ensures { result ≡ record { corrected = fixed.bytes; failed_rows = fixed.failed_rows; number = 0 } }
 {
@@ -114,7 +119,8 @@ pub(crate) fn report_found(fixed: Fixed) -> Report
 }
 
 // Reports the number of a cause. Answers its status. Two passes have the first three causes; the others are those of
-// data frames, for `dvdecc_read_block`. Which ID was found isn't reported: there is one number, that of the frame.
+// data frames, for `dvdecc_read_block`. One call for both, so that a cause has one status. Which ID was found isn't
+// reported: there is one number, that of the frame. The other two are set to 0, since no block was found to count in.
 pub(crate) fn report_cause(cause: Cause, report: &mut Report) -> u32
     ensures status { result ≡ cause_status cause }
     ensures report { report.new ≡ record { corrected = 0; failed_rows = 0; number = cause_number cause } }
@@ -135,7 +141,7 @@ pub(crate) fn report_cause(cause: Cause, report: &mut Report) -> u32
     status
 }
 
-// Writes the rows of the block that two passes found.
+// Writes the rows of the block that two passes found. Row by row, so that each loop has one invariant.
 fn put_block(work: &Work, rows: &mut [[u8; 182]; 208])
     requires { stage_of work.now ≡ StageFixed }
     ensures { rows.new ≡ block_of work.now }

@@ -3,6 +3,8 @@
 //!
 //! An ID word is the four bytes of an ID as a number: area, layer, sector number and other bits. A data frame is ID,
 //! IED (two bytes that check the ID), CPR_MAI, Main Data and EDC (which checks all before it).
+//!
+//! The exports are public and keep their names (`no_mangle`), since C finds them by these. To C an array is a pointer.
 ghost use Rattle.std.specs.Prelude.{◌≡◌};
 ghost use Rattle.dvdecc_c.specs.Frames.{rule_numbered, rule_status, with_scrambling, frame_or, reading_status, with_main, with_found};
 
@@ -23,7 +25,9 @@ pub extern "C" fn dvdecc_scramble(id: u32, rule: u32, main_data: &mut [u8; 2048]
     status::OK
 }
 
-/// Writes the data frame of an ID word, six bytes CPR_MAI and Main Data, which are scrambled in it.
+/// Writes the data frame of an ID word, six bytes CPR_MAI and Main Data, which are scrambled in it by the rule. The EDC
+/// is that of the bytes before scrambling. The caller's Main Data stay. Any ID word and any CPR_MAI have a frame, so
+/// only the rule can be wrong.
 #[unsafe(no_mangle)]
 pub extern "C" fn dvdecc_make_frame(
     id: u32,
@@ -72,8 +76,8 @@ pub extern "C" fn dvdecc_read_frame(
     }
 }
 
-// The rule of a number. The numbers are those of `dvdecc_rule` in include/dvdecc.h. C may pass any number, so a rule
-// isn't a parameter itself.
+// The rule of a number. The numbers are those of `dvdecc_rule` in include/dvdecc.h, and callers rest on them. C may
+// pass any number, and one that names no rule would be no `Rule`: so a rule isn't a parameter itself.
 fn numbered(rule: u32) -> Option<Rule>
     ensures { result ≡ rule_numbered rule }
 {

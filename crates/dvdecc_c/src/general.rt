@@ -4,6 +4,9 @@
 //! The lengths of a code are parameters of its type. With 255 for all words, 32 codes are enough: one for each number
 //! of parity bytes. 255 is the longest, since the field has 255 elements other than 0; 32 is a choice. In the clauses 5
 //! is the status BAD_LENGTH.
+//!
+//! The exports are public and keep their names (`no_mangle`), since C finds them by these. To C a slice is a pointer
+//! and a length, so a length has to be tested here before anything else.
 ghost use Rattle.std.specs.Prelude.{◌≡◌, ◌≢◌, ◌↔◌, ◌+◌, ◌-◌, ◌<◌, ◌≤◌, ◌++◌, IsTrue, length, replicate, take, unwrap_or};
 ghost use Rattle.coding.specs.Nearest.{near_of};
 ghost use Rattle.coding.specs.Words.{IsEncoded};
@@ -83,7 +86,8 @@ fn encode_any(word: &mut [u8], parity: u32)
         1 2 3 4 5 6 7 8 9 10 11 12 13 14 15 16 17 18 19 20 21 22 23 24 25 26 27 28 29 30 31; 32)
 }
 
-// Decodes a word of a code. Likewise.
+// Decodes a word of a code. Apart from the export for the same reason, and answers the status itself, since the lengths
+// are right here.
 fn decode_any(word: &mut [u8], lost: &[u8], parity: u32, correction: &mut Correction) -> u32
     requires some { 1 ≤ parity }
     requires few { parity ≤ 32 }
@@ -100,7 +104,7 @@ fn decode_any(word: &mut [u8], lost: &[u8], parity: u32, correction: &mut Correc
 }
 
 // Sets the parity of a word, as the end of one of 255 bytes. Zeros before a word change none of its values, so the
-// parity is that of the word. `parity` is `R` as a number, which the clauses name.
+// parity is that of the word. `parity` is `R` as a number: the clauses of the caller name that number, and so do these.
 fn encode_after_zeros<const R: usize>(word: &mut [u8], parity: u32)
     requires parity { parity ≡ R }
     requires some { 1 ≤ R }
@@ -116,7 +120,7 @@ fn encode_after_zeros<const R: usize>(word: &mut [u8], parity: u32)
 }
 
 // Decodes a word, as the end of one of 255 bytes. A codeword near that one is near the word only where it begins with
-// zeros.
+// zeros: it may also be one that has other bytes there, which count as errors like any others. `parity` is as above.
 fn decode_after_zeros<const R: usize>(
     word: &mut [u8],
     lost: &[u8],
@@ -139,6 +143,7 @@ fn decode_after_zeros<const R: usize>(
     // A copy, since the caller's correction stays also where the codeword that is found doesn't begin with zeros.
     let mut fix = *correction;
     let status = decode_word::<255, R>(&mut whole, &after_zeros(lost), &mut fix);
+    // UNCORRECTABLE is the only other status.
     if status != status::OK {
         return status::UNCORRECTABLE;
     }
@@ -151,7 +156,8 @@ fn decode_after_zeros<const R: usize>(
     status::OK
 }
 
-// A word, or its lost places, with zeros before it, 255 bytes in all. So none of the zeros is marked as lost.
+// A word, or its lost places, with zeros before it, 255 bytes in all. One call for both, since a place that isn't lost
+// is a 0 too: so none of the zeros before the word is marked as lost.
 fn after_zeros(word: &[u8]) -> [u8; 255]
     requires { length word.now ≤ 255 }
     ensures { result ≡ replicate (255 - length word.now) 0 ++ word.now }
@@ -161,7 +167,8 @@ fn after_zeros(word: &[u8]) -> [u8; 255]
     whole
 }
 
-// Writes a part after what comes before it. What comes after the part has no clause: here there is nothing.
+// Writes a part after what comes before it. Its clause is of any list and place, and the caller's follows from it. What
+// comes after the part has no clause: here there is nothing.
 fn put(out: &mut [u8], at: usize, part: &[u8])
     requires { at + length part.now ≤ length out.old }
     ensures { take (at + length part.now) out.new ≡ take at out.old ++ part.now }
@@ -169,7 +176,7 @@ fn put(out: &mut [u8], at: usize, part: &[u8])
     out[at..at + part.len()].copy_from_slice(part);
 }
 
-// Whether all bytes are zeros.
+// Whether all bytes are zeros: those before the word, of which there may be none. The first other byte ends the loop.
 fn are_zeros(bytes: &[u8]) -> bool
     ensures { IsTrue result ↔ (bytes.now ≡ replicate (length bytes.now) 0) }
 {

@@ -1,6 +1,9 @@
 //! Many rows by one call, for callers to whom a call costs more than a row. Each row is done by the call for one row,
-//! and by itself: what comes of one changes no other. In the clauses `other` is any answer: a list is asked for a place
-//! with something to give where it has none, which doesn't happen.
+//! and by itself: what comes of one changes no other. So the many differ from the one in nothing. In the clauses
+//! `other` is any answer: a list is asked for a place with something to give where it has none, which doesn't happen.
+//!
+//! The exports are public and keep their names (`no_mangle`), since C finds them by these. To C a slice is a pointer
+//! and a length, so each list has its own length and the lengths may differ.
 ghost use Rattle.std.specs.Prelude.{◌≡◌, ◌≢◌, ℕ, ◌<◌, length, slice_index_or, take};
 ghost use Rattle.coding.specs.Product.{line};
 ghost use Rattle.coding.specs.Words.{IsEncoded};
@@ -47,7 +50,7 @@ pub extern "C" fn dvdecc_rows_decode(
     ensures same_rows { result ≢ 0 → rows.new ≡ rows.old }
     ensures same_answers { result ≢ 0 → answers.new ≡ answers.old }
 {
-    // All lengths are compared before the first row changes.
+    // All lengths are compared before the first row changes, since nothing may change where they differ.
     if lost.len() != rows.len() || answers.len() != rows.len() {
         return status::BAD_LENGTH;
     }
@@ -55,7 +58,8 @@ pub extern "C" fn dvdecc_rows_decode(
     status::OK
 }
 
-// Decodes each of as many rows. By index, since three lists go along together. The caller has compared the lengths.
+// Decodes each of as many rows. By index, since three lists go along together. The caller has compared the lengths: so
+// no index is out of range, and the clauses need no case for lists that don't fit.
 fn decode_each(rows: &mut [[u8; 182]], lost: &[[u8; 182]], answers: &mut [Answer])
     requires lost { length lost.now ≡ length rows.old }
     requires answers { length answers.old ≡ length rows.old }
@@ -68,12 +72,12 @@ fn decode_each(rows: &mut [[u8; 182]], lost: &[[u8; 182]], answers: &mut [Answer
     }
 }
 
-// Decodes one row. What the list of answers held before doesn't matter.
+// Decodes one row. It makes its answer anew, so that what the list of answers held before doesn't count.
 fn decode_one(row: &mut [u8; 182], lost: &[u8; 182]) -> Answer
     ensures row { row.new ≡ row_decoded row.old lost.now }
     ensures answer { result ≡ answer_to row.old lost.now }
 {
-    // Where no codeword is near the call for one row leaves these zeros.
+    // Zeros, since the call for one row writes no correction where no codeword is near.
     let mut correction = Correction {
         errors: 0,
         erasures: 0,

@@ -7,7 +7,11 @@
 //! one block: rows and marks as received, what two passes made of them, and the sectors. In the clauses 2 is the status
 //! NO_MEMORY: it may come of any block, and the caller's buffers stay then. `asked` says that `id` and `rule` were
 //! right then, as they are tested first. The stage of a `Work` says how far it is: `Fetched` once a block was received,
-//! and `HasAnswers` once its rows were decoded.
+//! and `HasAnswers` once its rows were decoded. `HasNumbers` says of a plan that its sixteen sector numbers have 24
+//! bits and that its layer is 0 or 1.
+//!
+//! The exports are public and keep their names (`no_mangle`), since C finds them by these. To C an array is a pointer,
+//! and `alloc` is no parameter: it is the memory of malloc.
 ghost use Rattle.std.specs.Prelude.{◌≡◌, ◌≢◌, Ok, Err};
 ghost use Rattle.coding.specs.TwoPass.{answers_of};
 ghost use Rattle.dvd_capture.specs.Captured.{captured_marks, captured_rows};
@@ -31,7 +35,7 @@ use dvd_read::parts::salvage_frame;
 use dvd_read::{read_block, two_pass};
 use std::alloc::Global;
 
-/// The most that the first sector number of a block may be: its sixteen have 24 bits.
+/// The most that the first sector number of a block may be: its sixteen have 24 bits, so the last is at most 2^24 - 1.
 const LAST_FIRST: u32 = (1 << 24) - 16;
 
 /// Decodes a captured block, checks its sixteen data frames, and writes its sectors. `id` names the first frame, and
@@ -125,7 +129,8 @@ fn plan_of(id: u32, rule: u32) -> Result<BlockPlan, u32>
     })
 }
 
-// Reads a block that was received: two passes, then the checks of its frames.
+// Reads a block that was received: two passes, then the checks of its frames. `read_block` leaves the sectors in
+// `work`, and they are copied from there only where there is no cause.
 fn read_received(
     work: &mut Work,
     plan: &BlockPlan,
@@ -168,6 +173,8 @@ fn salvage_received(
 }
 
 // Salvages each frame of a block whose rows are answered. Each by itself: a wrong frame costs no other.
+// `salvage_frame` writes to the caller's sector, and zeros where the frame isn't salvaged, so nothing old is left
+// there.
 fn salvage_each(work: &Work, plan: &BlockPlan, sectors: &mut [[u8; 2048]; 16], saved: &mut [u8; 16])
     requires stage { HasAnswers (stage_of work.now) }
     requires numbers { HasNumbers plan.now }

@@ -3,6 +3,9 @@
 //! Q word, 86 to 137. An address that is reported isn't counted so: it is the three bytes of the header as they were
 //! read, the minute highest. In the clauses 4 is the status BAD_ADDRESS, and `answered` is what status and number say,
 //! as the answer of the crate below.
+//!
+//! The exports are public and keep their names (`no_mangle`), since C finds them by these. To C an array is a pointer.
+//! The crate below requires an address in range; nothing can be required of C, so each call tests it.
 ghost use Rattle.std.specs.Prelude.{◌≡◌, ◌<◌, ◌≤◌, ◌≢◌, drop};
 ghost use Rattle.coding.specs.Distance.{distance};
 ghost use Rattle.cd_sector.specs.Repair.{repaired};
@@ -12,7 +15,7 @@ ghost use Rattle.dvdecc_c.specs.Sectors.{IsAnswered, address_status, answered, w
 use crate::status;
 use cd_sector::CdCause;
 
-/// Addresses are below this one, which has minute 100.
+/// Addresses are below this one, which has minute 100: 100 × 60 × 75.
 const ADDRESSES: u32 = 450_000;
 
 /// Writes the sector of an address: sync, header, mode, user data, EDC, eight zeros, P and Q parity. From address

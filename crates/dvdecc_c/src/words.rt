@@ -2,7 +2,10 @@
 //! places are bytes, 0 where a place isn't lost, since C may write any byte.
 //!
 //! A row is 182 bytes with 10 of parity, a column 208 with 16. With e errors and s lost places a codeword is near where
-//! 2e + s is at most the number of parity bytes. The exports are public, since C finds them by their names.
+//! 2e + s is at most the number of parity bytes. The exports are public and keep their names (`no_mangle`), since C
+//! finds them by these; to C an array is a pointer. `Pi` and `Po` are the codes of rows and columns. Each call makes
+//! its code anew, as C has no object to keep it in. Decoding writes in place, and answers a status: C returns one
+//! number.
 ghost use Rattle.std.specs.Prelude.{◌≡◌, ◌<◌, ◌≤◌, ◌↔◌, IsTrue, take, unwrap_or};
 ghost use Rattle.coding.specs.Words.{IsCodeword, IsEncoded};
 ghost use Rattle.coding.specs.Nearest.{near_of};
@@ -56,7 +59,8 @@ pub extern "C" fn dvdecc_row_decode(
     decode_word::<182, 10>(row, lost, correction)
 }
 
-/// Sets the last 16 bytes of a column so that it is a codeword. The first 192 stay.
+/// Sets the last 16 bytes of a column so that it is a codeword. The first 192 stay. Each message has a codeword here
+/// too. A column is 208 bytes one after the other: who has a block copies it out of the rows.
 #[unsafe(no_mangle)]
 pub extern "C" fn dvdecc_column_parity(column: &mut [u8; 208])
     ensures { IsEncoded 208 16 (take 192 column.old) column.new }
@@ -90,8 +94,8 @@ pub extern "C" fn dvdecc_column_decode(
 
 // Sets a word to the codeword near it. The lengths of a code are parameters of its type: N bytes in all, R of them
 // parity. Where none is near, word and correction stay, as `decode` itself leaves the word. `general` calls it too, for
-// words of 255 bytes. The clauses `requires` are those of `decode`, and hold for each code that there is. The code is
-// made anew by each call, as C has no object to keep it in.
+// words of 255 bytes. The clauses `requires` are those of `Code`: a field of 256 elements has codewords of at most 255
+// bytes, and 32 is its choice. `decode` refuses for one reason alone, so the error has nothing to report.
 pub(crate) fn decode_word<const N: usize, const R: usize>(
     word: &mut [u8; N],
     lost: &[u8; N],
@@ -117,8 +121,8 @@ pub(crate) fn decode_word<const N: usize, const R: usize>(
     }
 }
 
-// The marks of a word. A byte that is neither 0 nor 1 is no `bool`, so each but 0 marks its place. They are made anew,
-// since the caller's bytes can't be taken for marks.
+// The marks of a word, as `decode` asks for them. A copy, since C may write a byte that is neither 0 nor 1, and such a
+// byte is no `bool`: the caller's bytes can't be read as marks. Each but 0 marks its place.
 fn marks_of<const N: usize>(lost: &[u8; N]) -> [bool; N]
     ensures { result ≡ lost_marks lost.now }
 {
