@@ -2,7 +2,7 @@
 //! ended. The counts have 64 bits and stay at their greatest number. They begin at 0 and never fall, so that a caller
 //! sees by them whether a call failed. `stopped` says that the last call failed or met the end. No code reads it:
 //! contracts do, through `seen`. They ask that the call that failed was the last, which the counts don't show, since
-//! calls that move bytes leave these as they are.
+//! calls that move bytes leave these as they are. `derive(Drop)` lets an owner let go of a value.
 ghost use Rattle.std.specs.Prelude.{◌≡◌, ◌<◌, length, take, None, IfOk, OnErr, is_ok, false, if◌then◌else◌};
 ghost use Rattle.std.specs.Io.KnownBytes.{Appends};
 ghost use Rattle.dvd_ports.specs.Calls.{IsRead, IsWrite};
@@ -77,9 +77,9 @@ impl<R: Read> Source for StdSource<R> {
     }
 }
 
-/// A sink over a writer, which it flushes after each write. A write that accepts nothing of a piece has failed. So a
-/// fault is known at the write that caused it, and a loop over the sink ends.
-/// Its bytes aren't known, since a flush may fail after the bytes were accepted.
+/// A sink over a writer, which it flushes after each write, so that a fault is known at the write that caused it. A
+/// write that accepts nothing of a piece has failed, so that a loop over the sink ends. Its bytes aren't known (`None`
+/// in `seen`): every sink promises that a failed call accepted none, and a flush may fail after they were accepted.
 #[derive(Drop)]
 pub struct StdSink<W: Write> {
     writer: W,
@@ -90,7 +90,7 @@ pub struct StdSink<W: Write> {
 impl<W: Write> StdSink<W> {
     ghost use Rattle.dvd_ports.specs.Adapters.{sink_writer};
 
-    /// A sink over this writer. Nothing is written yet.
+    /// A sink over this writer. Nothing is written yet. `ends` is 0 for each sink: only an input ends.
     pub fn new(writer: W) -> StdSink<W>
         ensures writer { sink_writer result ≡ writer }
         ensures seen { ⟦<StdSink<W> as Sink>⟧.seen result ≡ record { bytes = None; faults = 0; ends = 0; stopped = false } }
@@ -128,7 +128,7 @@ impl<W: Write> Sink for StdSink<W> {
         if buf.is_empty() {
             return Ok(0);
         }
-        // Likewise: taken back only where bytes were written and flushed.
+        // Set first, and taken back only where bytes were written and flushed: no other way out can miss it.
         self.stopped = true;
         match self.writer.write(buf) {
             Ok(count) if count > 0 => match self.writer.flush() {
@@ -141,7 +141,7 @@ impl<W: Write> Sink for StdSink<W> {
                     Err(Failed)
                 }
             },
-            // An error, or no byte of a piece that has some.
+            // An error, or no byte of a piece that has some. Nothing was accepted, so nothing is flushed.
             _ => {
                 self.faults = self.faults.saturating_add(1);
                 Err(Failed)

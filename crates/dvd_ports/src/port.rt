@@ -1,11 +1,14 @@
-//! Sources, sinks and their errors.
+//! Sources, sinks and their errors. They are traits of this project and not std's readers and writers, since a contract
+//! asks of an object what those don't have: how often it failed, and whether its last call did. `Seen` is that, and
+//! what is known of the bytes. The texts of the errors are for who prints one: the programs have lines of their own.
 ghost use Rattle.std.specs.Prelude.{◌≡◌, length};
 ghost use Rattle.dvd_ports.specs.Calls.{IsRead, IsWrite};
 ghost use Rattle.dvd_ports.specs.Seen.{Seen};
 
 use thiserror::Error;
 
-/// A single call of a source or a sink failed. The object's count of faults has risen by one.
+/// A single call of a source or a sink failed. The object's count of faults has risen by one. It has no kind and no
+/// cause, since whatever it is nothing is tried again.
 #[derive(Clone, Copy, Debug, PartialEq, Eq, Drop, Error)]
 #[error("the call failed")]
 pub struct Failed;

@@ -1,6 +1,7 @@
 //! Sinks over memory, and one that keeps nothing. A call fails only where its number is listed, or where the sink is
 //! full. What a contract sees of a sink in memory is a value, its `Model`, of which clauses name the fields. Contracts
-//! ask by `stopped` that a call that failed was the last; no later call reads it.
+//! ask by `stopped` that a call that failed was the last; no later call reads it. They are part of the library, since
+//! the crates that depend on it use them. `derive(Drop)` lets an owner let go of a value.
 ghost use Rattle.std.specs.Prelude.{◌≡◌, ◌<◌, ◌≤◌, ◌↔◌, ◌-◌, ◌⊎◌, ◌++◌, [], length, take, min, Some, None, Contains, IfOk, IsErr, OnErr, true, false};
 ghost use Rattle.dvd_ports.specs.Calls.{IsWrite};
 ghost use Rattle.dvd_ports.specs.Causes.{next_count};
@@ -16,6 +17,7 @@ use std::marker::Model;
 #[derive(Drop)]
 pub struct MemSink {
     held: Vec<u8>,
+    // Kept beside the list, whose capacity may be more than was asked for: a test has to know where the sink is full.
     room: usize,
     step: usize,
     fails: Vec<u64>,
@@ -36,7 +38,8 @@ impl Model for MemSink {
 }
 
 impl MemSink {
-    /// A sink with room for `room` bytes, whose memory is allocated here; no write allocates any.
+    /// A sink with room for `room` bytes, whose memory is allocated here; no write allocates any, so none fails for
+    /// want of it. `step` isn't 0: each call that doesn't fail has to accept a byte.
     pub fn new(
         alloc: Global,
         room: usize,
@@ -59,7 +62,7 @@ impl MemSink {
         })
     }
 
-    /// The bytes that the sink has accepted.
+    /// The bytes that the sink has accepted, in order, for a test to compare.
     pub fn held(&self) -> &[u8]
         ensures { result.now ≡ self.now.held }
     {
@@ -84,6 +87,7 @@ impl Sink for MemSink {
         ensures call { IsWrite (sink_seen self.old) (sink_seen self.new) result buf.now }
         ensures empty { length buf.now ≡ 0 → (result ≡ Ok 0) × (self.new ≡ self.old) }
     {
+        // Such a call has no number: it is neither counted nor fails, also where the sink is full.
         if buf.is_empty() {
             return Ok(0);
         }
@@ -110,7 +114,7 @@ impl Sink for MemSink {
 pub struct NullSink;
 
 impl NullSink {
-    /// The sink that keeps nothing. A call, so that a clause says what is seen of it.
+    /// The sink that keeps nothing. A call, though the type has one value: so a clause says what is seen of it.
     pub fn new() -> NullSink
         ensures { ⟦<NullSink as Sink>⟧.seen result ≡ record { bytes = None; faults = 0; ends = 0; stopped = false } }
     {

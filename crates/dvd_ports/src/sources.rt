@@ -1,7 +1,9 @@
 //! Sources over memory. Their bytes are known, and a call fails only where its number is listed. They are part of the
 //! library, since the crates that depend on it test their faults with them. What a contract sees of each is a value,
 //! its `Model`: clauses name its fields, so that a test knows each count. Counts stay at their greatest number, of 64
-//! bits. Contracts ask by `stopped` that a call that failed, or met the end, was the last.
+//! bits. Contracts ask by `stopped` that a call that failed, or met the end, was the last. The clauses of `read` say
+//! more than those of every source, exactly what each call does, so that a test can state what must come.
+//! `derive(Drop)` lets an owner let go of a value.
 ghost use Rattle.std.specs.Prelude.{◌≡◌, ◌<◌, ◌≤◌, ◌↔◌, ◌++◌, length, take, drop, min, Some, Contains, IfOk, IsErr, OnErr, OnOk, true, false};
 ghost use Rattle.dvd_ports.specs.Calls.{IsRead};
 ghost use Rattle.dvd_ports.specs.Causes.{next_count};
@@ -30,7 +32,7 @@ impl<'a> Model for SliceSource<'a> {
 }
 
 impl<'a> SliceSource<'a> {
-    /// A source of these bytes.
+    /// A source of these bytes. They are borrowed, so that it takes no memory and copies nothing before a read.
     pub fn new(bytes: &'a [u8]) -> SliceSource<'a>
         ensures { result ≡ record { left = bytes.now; ends = 0; stopped = false } }
     {
@@ -57,10 +59,11 @@ impl<'a> Source for SliceSource<'a> {
         ensures call { IsRead (slice_seen self.old) (slice_seen self.new) result buf.new }
         ensures empty { length buf.old ≡ 0 → (result ≡ Ok 0) × (self.new ≡ self.old) }
     {
-        // Not counted: it isn't the end of the input.
+        // Not counted: it isn't the end of the input, and such a call changes nothing.
         if buf.is_empty() {
             return Ok(0);
         }
+        // There is room, so a call that gives nothing has met the end. An end may be met again: each time counts.
         self.stopped = self.rest.is_empty();
         if self.stopped {
             self.ends = self.ends.saturating_add(1);
@@ -79,6 +82,7 @@ impl<'a> Source for SliceSource<'a> {
 #[derive(Drop)]
 pub struct MemSource {
     bytes: Vec<u8>,
+    // How many of them were given: they stay where they are, so that no read moves the rest.
     at: usize,
     // The most bytes a call, and the numbers of the calls that fail, from 0 on.
     step: usize,
@@ -103,7 +107,8 @@ impl Model for MemSource {
 }
 
 impl MemSource {
-    /// A source of these bytes, at most `step` of them a call; the calls with these numbers fail.
+    /// A source of these bytes, at most `step` of them a call; the calls with these numbers fail, in any order and with
+    /// repetitions. `step` isn't 0: a call that gives nothing while there are bytes would say that they have ended.
     pub fn new(bytes: Vec<u8>, step: usize, fails: Vec<u64>) -> MemSource
         requires { 1 ≤ step }
         ensures { result ≡ record { left = bytes.items; step = step; fails = fails.items; calls = 0; faults = 0; ends = 0; stopped = false } }
@@ -140,6 +145,7 @@ impl Source for MemSource {
         ensures call { IsRead (source_seen self.old) (source_seen self.new) result buf.new }
         ensures empty { length buf.old ≡ 0 → (result ≡ Ok 0) × (self.new ≡ self.old) }
     {
+        // Such a call has no number: it is neither counted nor fails.
         if buf.is_empty() {
             return Ok(0);
         }

@@ -1,6 +1,7 @@
 //! Whole pieces: a write of all bytes, and a read that fills a buffer. A call may move fewer bytes than it is asked to.
 //! Who uses these two needn't know how many calls a piece took. `tactic` is for the prover alone: it names lemmas by
-//! which what several calls moved is one piece.
+//! which what several calls moved is one piece. They aren't std's `write_all` and `read_exact`: those try an
+//! interrupted call again, and the second doesn't say how many bytes came before the end.
 ghost use Rattle.std.specs.Prelude.{◌<◌, length, take, IfOk, OnErr};
 ghost use Rattle.std.specs.Io.{ReadsAtMost};
 ghost use Rattle.std.specs.Io.KnownBytes.{Consumes, IsAtEnd};
@@ -10,7 +11,8 @@ ghost use Rattle.dvd_ports.specs.Whole.{ConsumesFewer, IsWritten};
 use crate::{Failed, Sink, Source, WriteFault};
 
 /// Writes the whole piece, in one call or several. After a fault the sink has accepted a prefix of the piece and not
-/// all of it, and the failed call is the last.
+/// all of it, and the failed call is the last. A piece without bytes takes no call. The error is another type than that
+/// of a read, so that a caller's `?` makes another end of it.
 #[tactic(auto, using(crate::proofs::KnownLemmas::write_begun, crate::proofs::KnownLemmas::writes_more))]
 pub fn write_whole<K: Sink>(out: &mut K, buf: &[u8]) -> Result<(), WriteFault>
     ensures { IsWritten buf.now (K.seen out.old) (K.seen out.new) result }
@@ -20,7 +22,8 @@ pub fn write_whole<K: Sink>(out: &mut K, buf: &[u8]) -> Result<(), WriteFault>
     while written < buf.len() {
         match out.write(&buf[written..]) {
             Ok(count) => written += count,
-            // Nothing is tried again: a second call would hide that one failed.
+            // Nothing is tried again: a second call would hide that one failed. How much was written isn't answered,
+            // since no caller goes on from there.
             Err(Failed) => return Err(WriteFault),
         }
     }
@@ -29,7 +32,7 @@ pub fn write_whole<K: Sink>(out: &mut K, buf: &[u8]) -> Result<(), WriteFault>
 
 /// Fills the buffer, in one call or several, and returns the number of bytes read. It is less than the buffer's length
 /// only at the end of the input, which is believed at once. After a fault fewer bytes than the buffer's length were
-/// read from the source, and the failed call is the last.
+/// read from the source, and the failed call is the last. What they are isn't said, and no caller looks.
 #[tactic(auto, using(crate::proofs::KnownLemmas::reads_more, crate::proofs::KnownLemmas::reads_inside))]
 pub fn read_whole<S: Source>(src: &mut S, buf: &mut [u8]) -> Result<usize, Failed>
     ensures bound { ReadsAtMost result buf.new }
