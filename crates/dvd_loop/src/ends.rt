@@ -1,5 +1,6 @@
 //! How a loop ends, what kind a unit is, and what comes after the last one. A unit is what a command reads at a time: a
-//! sector, a block or a recording frame. One answers if it is what the command looks for.
+//! sector, a block or a recording frame. One answers if it is what the command looks for. `from_gives` is what a clause
+//! knows of a `from`, so that it knows which end `?` makes of an error.
 ghost use Rattle.std.specs.Prelude.{◌≡◌, ◌≢◌, true, false};
 ghost use Rattle.dvd_loop.specs.declared.ends.LoopEnd.TheVariants.{ReadFault as read_fault, WriteFault as write_fault};
 ghost use Rattle.dvd_loop.specs.declared.ends.UnitKind.TheVariants.{Last as last};
@@ -20,9 +21,10 @@ pub enum LoopEnd {
     ReportFault,
     /// The input ended in this unit, after this number of its bytes.
     Short { unit: u32, bytes: u32 },
-    /// One byte more came than was expected.
+    /// One byte more came than was expected. How many more there are isn't known: none is read after it.
     Long,
-    /// The input was whole, and this number of units is bad, whether they are blocks or sectors.
+    /// The input was whole, and this number of units is bad, whether they are blocks or sectors. It is at least 1, as
+    /// with none the end is `Done`.
     Damaged { blocks: u32 },
     /// No unit answered. The name is that of the one command that looks for one: `info`, for control data.
     NoControl,
@@ -67,7 +69,7 @@ pub enum UnitKind {
 }
 
 impl UnitKind {
-    /// Whether the loop ends after this unit.
+    /// Whether the loop ends after this unit. It has a clause for each answer, as the loop has a branch for each.
     pub fn is_last(self) -> bool
         ensures yes { result ≡ true → self ≡ last }
         ensures no { result ≡ false → self ≢ last }

@@ -1,6 +1,8 @@
 //! The loop over units that all commands share, and the line that closes it. In clauses an outcome is what was read,
 //! written and reported, and the end. `HasEnded` says that the streams have moved by one that the units allow, and that
-//! a fault is one failed call, the last of its stream.
+//! a fault is one failed call, the last of its stream. A command's `key` is what its units depend on, `units` what may
+//! be read and done for each, and `ready` what its buffers and counts are after units with these bytes: `[]`, before
+//! the first. The command, the streams and what is done are parameters of a type, so one proof of the loop is for all.
 ghost use Rattle.std.specs.Prelude.{◌≡◌, ◌≢◌, ℕ, List, [], true, false};
 ghost use Rattle.dvd_ports.specs.Seen.{Seen};
 ghost use Rattle.dvd_loop.specs.Machine.{Closes, EndsAfterLast, IsOutcome};
@@ -12,7 +14,8 @@ use dvd_ports::{Failed, Sink, Source, WriteFault, read_whole, write_whole};
 
 /// Opens a command, goes over its units, closes it, and checks what comes after the last unit. Nothing is tried again:
 /// a failed call, and a read that met the end of the input, is the last of its stream. The command closes before the
-/// end of the input is looked for, so that an input that is too long has its closing too.
+/// end of the input is looked for, so that an input that is too long has its closing too. It writes no closing line:
+/// `close` does. The command is borrowed, for callers that look at what it leaves; `run_owned` is for the others.
 pub fn run_units<C: UnitCommand<S, K, E>, S: Source, K: Sink, E: Sink>(
     command: &mut C,
     src: &mut S,
@@ -26,6 +29,7 @@ pub fn run_units<C: UnitCommand<S, K, E>, S: Source, K: Sink, E: Sink>(
     ensures same { C.key command.new ≡ C.key command.old }
     ensures left { C.left command.new result }
 {
+    // An end within any call is the end of the loop: after a fault nothing is closed, since that writes.
     if let Err(end) = command.open(out, report) {
         return end;
     }
@@ -63,8 +67,9 @@ pub fn run_owned<C: UnitCommand<S, K, E> + Drop, S: Source, K: Sink, E: Sink>(
 }
 
 // The end of a loop after its last unit. One byte is requested, since only a read can find the end of the input; a byte
-// that comes is lost, and the end is `Long`, whatever was bad. Output and report aren't touched. Where nothing is
-// requested `bad` doesn't count: the commands that end so, `info` and `exercise`, have no bad unit.
+// that comes is lost, and the end is `Long`, whatever was bad: a run has one end, and this one says that the input is
+// another than was asked for. Output and report aren't touched. Where nothing is requested `bad` doesn't count: the
+// commands that end so, `info` and `exercise`, have no bad unit.
 fn expect_end<S: Source>(after_last: AfterLast, bad: u32, src: &mut S) -> LoopEnd
     ensures comes { (output report : Seen) → HaveReached (EndsAfterLast after_last bad)
         (streams (S.seen src.old) output report) (streams (S.seen src.new) output report) result }
@@ -84,8 +89,9 @@ fn expect_end<S: Source>(after_last: AfterLast, bad: u32, src: &mut S) -> LoopEn
 }
 
 /// Writes the closing line of a loop's end to the report. After a fault of the report nothing is tried. Where the line
-/// can't be written, the end is `ReportFault` in place of the other. Programs call it after the loop, since the words
-/// of the line are theirs.
+/// can't be written, the end is `ReportFault` in place of the other, since who reads reports must not take silence for
+/// success. Programs call it after the loop, since the words of the line are theirs. `line` is that of `end`, with its
+/// end of line.
 pub fn close<E: Sink>(end: LoopEnd, line: &[u8], report: &mut E) -> LoopEnd
     ensures closes { (closing : HowItEnds → List ℕ) (source output : Seen) → closing end ≡ line.now → HaveReached (λ bytes. Closes closing end)
         (streams source output (E.seen report.old)) (streams source output (E.seen report.new)) result }

@@ -1,4 +1,6 @@
-//! A command whose units are independent: nothing opens or closes them, and the input has to end after the last.
+//! A command whose units are independent: nothing opens or closes them, and the input has to end after the last. Most
+//! commands are such. They give two calls here, where `UnitCommand` asks for five. `seen` is what a clause sees of a
+//! stream: its bytes, how often it failed and ended, and whether its last call did either.
 ghost use Rattle.std.specs.Prelude.{◌≡◌, ◌<◌};
 ghost use Rattle.dvd_loop.specs.Machine.{IsOutcome, Units};
 ghost use Rattle.dvd_loop.specs.Streams.{streams, HasEnded};
@@ -22,10 +24,11 @@ pub trait PlainCommand<S: Source, K: Sink, E: Sink> {
     /// It can process a unit: its buffers are fit for it.
     ghost ready: { Self → Type 0 } = { λ _. Unit {0} };
 
-    /// Nothing opens or closes its units, and the input has to end after the last.
+    /// Nothing opens or closes its units, and the input has to end after the last. A proof of it, that each command
+    /// gives: `run_plain` rests on it, since it does nothing there.
     ghost alone: { (key : Key) → ArePlain (units key) };
 
-    /// How many units there are.
+    /// How many units there are: the loop asks once.
     fn count(&self) -> u32
         ensures { result ≡ (units (key self.now)).count };
 
@@ -82,7 +85,8 @@ impl<S: Source, K: Sink, E: Sink, P: PlainCommand<S, K, E>> UnitCommand<S, K, E>
     }
 }
 
-/// Goes over the units of a command, as `run_units` does, and checks that the input ends after the last.
+/// Goes over the units of a command, as `run_units` does, and checks that the input ends after the last. The command is
+/// handed over, since nobody looks at what a plain one leaves.
 pub fn run_plain<P: PlainCommand<S, K, E> + Drop, S: Source, K: Sink, E: Sink>(
     command: P,
     src: &mut S,

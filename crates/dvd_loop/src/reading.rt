@@ -1,4 +1,5 @@
-//! The bytes of one unit.
+//! The bytes of one unit. `seen` is what a clause sees of a stream: its bytes, how often it failed and ended, and
+//! whether its last call did either.
 ghost use Rattle.std.specs.Prelude.{◌<◌, ◌^◌, length, IfErr, OnOk};
 ghost use Rattle.std.specs.Io.KnownBytes.{Consumes};
 ghost use Rattle.dvd_loop.specs.UnitCommand.{EndsShort, HasReadCause};
@@ -15,7 +16,8 @@ pub fn read_unit<S: Source>(src: &mut S, k: u32, unit: &mut [u8]) -> Result<(), 
     ensures short { IfErr result (EndsShort k (length unit.new) (S.seen src.old) (S.seen src.new)) }
     ensures causes { HasReadCause result (S.seen src.old) (S.seen src.new) }
 {
-    // The buffer is shorter than 2^32 bytes, so that a number of its bytes has room in 32 bits.
+    // `?` makes a failed read the end `ReadFault`. The buffer is shorter than 2^32 bytes, so that a number of its bytes
+    // has room in 32 bits, as an end has it. Each caller proves it of its buffer.
     let held = read_whole(src, unit)?;
     if held < unit.len() {
         return Err(LoopEnd::Short {

@@ -33,7 +33,7 @@ pub trait UnitCommand<S: Source, K: Sink, E: Sink> {
     /// nothing that is said.
     ghost left: { Self → HowItEnds → Type 0 };
 
-    /// How many units there are.
+    /// How many units there are: the loop asks once, after `open`.
     fn count(&self) -> u32
         ensures { result ≡ (units (key self.now)).count };
 
@@ -62,7 +62,8 @@ pub trait UnitCommand<S: Source, K: Sink, E: Sink> {
         ensures left { IfErr result (left self.new) }
         ensures last { result ≡ Ok UnitKind.Last → left self.new LoopEnd.Done };
 
-    /// Writes and reports what comes after the last unit, before one more byte is requested.
+    /// Writes and reports what comes after the last unit, before one more byte is requested. It isn't called after a
+    /// unit that ended the loop. The last clause is of any end, since the loop's is known only after that byte.
     fn close(&self, out: &mut K, report: &mut E) -> Result<(), LoopEnd>
         ensures closes { (source : Seen) → ClosesUnits (units (key self.now)) (ready self.now)
             (streams source (K.seen out.old) (E.seen report.old)) (streams source (K.seen out.new) (E.seen report.new)) result }
