@@ -1,22 +1,27 @@
 //! Numbers, amounts of bytes and lists of numbers, and texts that have a value for each of several cases.
 //! A text may have any number, so sums and products are checked or stop at the largest number: nothing overflows.
+//!
+//! This crate is for tests alone, so its functions have no clauses. None as an answer is a text that isn't of the form,
+//! or want of memory; the test fails by it. A text is written by hand, and so a form has no more than tests need.
 use std::alloc::Global;
 
-/// The bytes of a row, and of a row with its marks.
+/// The bytes of a row, and of a row with its 23 bytes of marks, a bit for each byte. They are here since the crate
+/// depends on none that has them.
 pub const ROW_BYTES: usize = 182;
 
 pub const MARKED_ROW_BYTES: usize = 205;
 
-/// The bytes of a block, as it is recorded, and of one in the marked form.
+/// The bytes of a block, as it is recorded, and of one in the marked form: 208 rows.
 pub const BLOCK_BYTES: usize = 37_856;
 
 pub const MARKED_BLOCK_BYTES: usize = 42_640;
 
-/// Whether this holds, for `?`.
+/// Whether this holds, as an answer for `?`: so a line ends in one way where a thing doesn't hold or can't be read.
 pub fn is(holds: bool) -> Option<()> {
     if holds { Some(()) } else { None }
 }
 
+/// A number, of decimal digits without commas.
 pub fn number(text: &str) -> Option<usize> {
     text.parse::<usize>().ok()
 }
@@ -26,7 +31,7 @@ pub fn byte(digits: &str) -> Option<u8> {
     u8::from_str_radix(digits, 16).ok()
 }
 
-/// How many bytes, as `2 blocks and 5 bytes`.
+/// How many bytes, as `2 blocks and 5 bytes`: one term or two, as tests need no third.
 pub fn amount(text: &str) -> Option<usize> {
     match text.split_once(" and ") {
         Some((first, second)) => term(first)?.checked_add(term(second)?),
@@ -34,6 +39,8 @@ pub fn amount(text: &str) -> Option<usize> {
     }
 }
 
+// A number of units, as `1 block` or `2 blocks`. A frame is a recording frame here, a sixteenth of a block, and a
+// sector is one of a DVD; `cdsector` is one of a CD-ROM.
 fn term(text: &str) -> Option<usize> {
     let (count, unit) = text.split_once(' ')?;
     let size = match unit.strip_suffix('s').unwrap_or(unit) {
@@ -54,10 +61,13 @@ fn term(text: &str) -> Option<usize> {
 pub struct NumberRange {
     first: usize,
     step: usize,
+    /// How many there are: at least one. Callers go over them by their place, as `at` asks.
     pub count: usize,
 }
 
 impl NumberRange {
+    /// The numbers of a text. Both ends belong to them, as far as the steps meet the last. Refused are a last number
+    /// below the first, and the step 0, by which nothing can be divided.
     pub fn of(text: &str) -> Option<NumberRange> {
         let (range, step) = text.split_once(" step ").unwrap_or((text, "1"));
         let (first, last) = range.split_once(" to ").unwrap_or((range, range));
@@ -67,13 +77,15 @@ impl NumberRange {
         Some(NumberRange { first, step, count })
     }
 
+    /// Number `k` of them, from 0 on. That `k` is below `count` isn't tested: callers do.
     pub fn at(self, k: usize) -> usize {
         self.first.saturating_add(k.saturating_mul(self.step))
     }
 }
 
 /// Writes the text with the value of case `k` in place of all values in these brackets. Answers how many cases there
-/// are: as many as the longest list has values. A shorter one fails at its end, so that no case is passed over.
+/// are: as many as the longest list has values, or 1 without brackets. A shorter one fails at its end, so that no case
+/// is passed over. A caller asks for case 0 first, to know the number; the buffer is its own, and is used again.
 pub fn spell(
     alloc: Global,
     text: &str,
@@ -96,7 +108,8 @@ pub fn spell(
     Some(cases)
 }
 
-// The values are words with commas between them, or numbers, as `{0 to 15}`.
+// The values are words with commas between them, or numbers, as `{0 to 15}`. What has no comma is numbers: a single
+// word in brackets has nothing to choose from, and is refused.
 fn put_value(alloc: Global, values: &str, k: usize, spelt: &mut String) -> Option<usize> {
     if values.contains(", ") {
         spelt.push_str(values.split(", ").nth(k)?).ok()?;

@@ -1,4 +1,6 @@
-//! Bytes of a capture that are lost, wrong or doubtful, at places of its blocks.
+//! Bytes of a capture that are lost, wrong or doubtful, at places of its blocks. This crate is for tests alone, so its
+//! functions have no clauses. None as an answer is a text that isn't of the form. Sums and products stop at the largest
+//! number, since a text may have any: such a place isn't there, and is passed over.
 use crate::amounts::{BLOCK_BYTES, MARKED_ROW_BYTES, NumberRange, ROW_BYTES, byte, is, number};
 
 // What happens to a byte: these bits of it are kept, and then those inverted. In the marked form it also gets a mark,
@@ -21,7 +23,10 @@ struct Places {
     sector: usize,
 }
 
-/// Does `verb: rest`, as `wrong by 55: block 1, rows 3 to 7, bytes 0 to 9; row 9`, where all of it is spelt so.
+/// Does `verb: rest`, as `wrong by 55: block 1, rows 3 to 7, bytes 0 to 9; row 9`, where all of it is spelt so. `by`
+/// names bits to invert and `as` a byte to put there, which is to keep no bit and invert these: so one form does for
+/// all. Without a value it is 00, so `zero` is `set as 00`. `lost` and `doubtful` also set the mark of the byte and
+/// `known` takes it away, so they need the marked form; the others need the plain one, or sectors.
 pub fn damage_bytes(verb: &str, rest: &str, bytes: &mut [u8]) -> Option<()> {
     let valued = verb.split_once(" by ").or(verb.split_once(" as "));
     let (kind, value) = valued.unwrap_or((verb, "00"));
@@ -41,7 +46,9 @@ pub fn damage_bytes(verb: &str, rest: &str, bytes: &mut [u8]) -> Option<()> {
 }
 
 // What isn't named is all: 601 blocks are more than a test has, and no row or sector has more than 2,352 bytes. Places
-// that aren't there are passed over by `change`.
+// that aren't there are passed over by `change`. Sectors are kept as rows of another length, from the first byte on,
+// and `places` as bytes of one row without end: so one loop does for all. `max` keeps the shift that one part names,
+// where others name none.
 fn read_places(text: &str) -> Option<Places> {
     let mut places = Places {
         blocks: NumberRange::of("0 to 600")?,
@@ -74,8 +81,8 @@ fn read_places(text: &str) -> Option<Places> {
     Some(places)
 }
 
-// There is never more than this number of blocks, a marked one being longer. Sectors are counted from the first byte of
-// all.
+// There is never more than this number of blocks, a marked one being longer; to go on to the last of 601 would only
+// take time. Sectors are counted from the first byte of all, so the outer loop goes once.
 fn hit_places(places: &Places, hit: Hit, bytes: &mut [u8]) -> Option<()> {
     let blocks = if places.sector > 0 {
         1
@@ -91,6 +98,7 @@ fn hit_places(places: &Places, hit: Hit, bytes: &mut [u8]) -> Option<()> {
     is(places.sector > 0 || bytes.len() % ROW_BYTES == 0 || bytes.len() % MARKED_ROW_BYTES == 0)
 }
 
+// Hits row `i` of those named. The shift grows with `i`, and not with the row's number: the first row has none.
 fn hit_row(places: &Places, block: usize, i: usize, hit: Hit, bytes: &mut [u8]) {
     let (row, length) = if places.sector > 0 {
         (places.rows.at(i), places.sector)
@@ -101,13 +109,16 @@ fn hit_row(places: &Places, block: usize, i: usize, hit: Hit, bytes: &mut [u8]) 
     let shift = i.saturating_mul(places.shift);
     for k in 0..places.bytes.count.min(length) {
         let at = places.bytes.at(k).saturating_add(shift);
-        // The bytes after the last one of a row are the first ones. Two more have marks that no byte of the row has.
+        // With a shift, the bytes after the last one of a row are the first ones. Without one they stay as they are
+        // named: 23 bytes of marks have 184 bits, and a text may name the two that no byte of the row has. `max` only
+        // shows that nothing is divided by 0.
         let at = if shift > 0 { at % length.max(1) } else { at };
         hit_at(row, at, length, hit, bytes);
     }
 }
 
-/// Where a row of a block is recorded: after each twelve rows of data comes one of outer parity.
+/// Where a row of a block is recorded: after each twelve rows of data comes one of outer parity. Row 192 + f is the
+/// last of the thirteen of recording frame f. `failure` calls it too, to print places.
 pub fn recorded(row: usize) -> usize {
     if row < 192 {
         row + row / 12
@@ -116,6 +127,7 @@ pub fn recorded(row: usize) -> usize {
     }
 }
 
+// Hits byte `at` of a row of this length, which is counted from the first row of all.
 // A row in the marked form has its marks after it. The high bit of their first byte is that of the row's first byte. A
 // hit without a mark is of the plain form, or of a sector.
 fn hit_at(row: usize, at: usize, length: usize, hit: Hit, bytes: &mut [u8]) {
@@ -131,7 +143,8 @@ fn hit_at(row: usize, at: usize, length: usize, hit: Hit, bytes: &mut [u8]) {
     change(bytes, place, !bit, if mark { bit } else { 0 });
 }
 
-// Keeps these bits of the byte, and then inverts those.
+// Keeps these bits of the byte, and then inverts those. A byte that isn't there is passed over: in `read_places` what
+// isn't named is more than there is.
 fn change(bytes: &mut [u8], at: usize, kept: u8, turned: u8) {
     if let Some(byte) = bytes.get_mut(at) {
         *byte = *byte & kept ^ turned;

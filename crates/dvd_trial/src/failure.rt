@@ -1,4 +1,5 @@
-//! What a test ends with, and what is printed where the result isn't the one expected.
+//! What a test ends with, and what is printed where the result isn't the one expected. This crate is for tests alone:
+//! its functions have no clauses, so of them only is proved that they are safe and end.
 use crate::amounts::{MARKED_ROW_BYTES, ROW_BYTES};
 use crate::damage::recorded;
 use crate::trial::TrialState;
@@ -7,7 +8,8 @@ use std::thread::Threads;
 /// Everything holds, or what doesn't.
 pub type Held = Result<(), &'static str>;
 
-/// Whether what each line of the text says holds. Where one doesn't, prints it, what was run and what came.
+/// Whether what each line of the text says holds. Where one doesn't, prints it, what was run and what came. The error
+/// says no more, since it is a fixed text. `rt` is the runtime of the test: memory, threads and the report.
 pub fn hold<R: AllocGlobal + Threads + Sync + Eprint>(rt: &R, text: &str) -> Held {
     let mut trial = TrialState::new(rt);
     if trial.holds(text).is_none() {
@@ -17,13 +19,15 @@ pub fn hold<R: AllocGlobal + Threads + Sync + Eprint>(rt: &R, text: &str) -> Hel
     Ok(())
 }
 
-/// Whether a line of the text doesn't hold: for tests that what is wrong is refused. Nothing is printed.
+/// Whether a line of the text doesn't hold: for tests that what is wrong is refused. Nothing is printed, since that is
+/// what such a test wants. A text that can't be read, and want of memory, are such lines too.
 pub fn fails<R: AllocGlobal + Threads + Sync>(rt: &R, text: &str) -> bool {
     TrialState::new(rt).holds(text).is_none()
 }
 
 // The arguments that ran last, their result, and where the output first differs from the wanted one: as an image, and
-// as a capture of both forms.
+// as a capture of both forms: which of them it is isn't known here. What can't be printed is let go, since nothing else
+// can be done for it. 2,048 bytes are a sector.
 fn print<R: Eprint>(rt: &R, trial: &TrialState<R>) {
     let words = trial.words.split(" or ").nth(trial.last).unwrap_or("");
     let (line, left) = (trial.line.as_str(), &trial.left);
@@ -44,7 +48,8 @@ fn print<R: Eprint>(rt: &R, trial: &TrialState<R>) {
     }
 }
 
-// Which row of a block is recorded there.
+// Which row of a block is recorded there: `place` is a number of recorded rows. The row is searched, since `recorded`
+// has no other inverse; each place of a block has one, so the default doesn't come.
 fn print_place<R: Eprint>(rt: &R, form: &str, place: usize, byte: usize) {
     let (block, place) = (place / 208, place % 208);
     let row = (0..208usize)

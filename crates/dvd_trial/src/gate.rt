@@ -1,4 +1,6 @@
-//! A gate that counts the calls of each piece, and may let two workers wait for each other.
+//! A gate that counts the calls of each piece, and may let two workers wait for each other. A pass over a block is
+//! shared out in pieces, one for each worker, and asks the gate at the start of each. No contract says that two threads
+//! run at the same time, so a test has to see it: two pieces that wait for each other both go on only where it is so.
 use dvd_par::Gate;
 use std::sync::atomic::{AtomicU64, Ordering};
 
@@ -8,11 +10,12 @@ const MOST_LOOKS: u64 = 50_000_000;
 
 #[derive(Drop)]
 pub struct Counting {
-    // Whether pieces 0 and 1 wait until the other has been called as often.
+    // Whether pieces 0 and 1 wait until the other has been called as often. Two are enough to show it.
     meets: bool,
     // The calls of each piece, up to 15: a hexadecimal digit each, that of piece 0 the lowest, so sixteen fit 64 bits.
+    // One number for all, since workers share it and it is compared at once. No test has more calls of a piece.
     digits: AtomicU64,
-    // Calls of a piece that can't be, and waits that ran out. After one nobody waits.
+    // Calls of a piece that can't be, and waits that ran out. After one nobody waits, since the run has failed then.
     faults: AtomicU64,
 }
 
@@ -26,10 +29,14 @@ impl Counting {
         }
     }
 
+    // The digit of a piece. `% 16` changes no piece that is asked for: it shows that the shift is below 64. The order
+    // of all accesses here is the strictest one, since a test needn't be quick.
     fn calls(&self, piece: usize) -> u64 {
         self.digits.load(Ordering::SeqCst) >> (4 * (piece % 16)) & 0xF
     }
 
+    // Waits until the other piece has been called so often, or a fault is counted. That the looks run out is one: so a
+    // wait always ends, and the run is seen to have failed.
     fn wait(&self, other: usize, calls: u64) {
         for _ in 0..MOST_LOOKS {
             if self.calls(other) >= calls || self.faults.load(Ordering::SeqCst) > 0 {
@@ -39,7 +46,8 @@ impl Counting {
         self.faults.fetch_add(1, Ordering::SeqCst);
     }
 
-    /// Whether each of the first `pieces` pieces was called `times` times, and no other, and no wait ran out.
+    /// Whether each of the first `pieces` pieces was called `times` times, and no other, and no wait ran out. The
+    /// number that must be is built digit by digit, all alike.
     pub fn has_counted(&self, pieces: usize, times: usize) -> bool {
         let mut digits: u64 = 0;
         for _ in 0..pieces.min(16) {
@@ -51,6 +59,7 @@ impl Counting {
 
 impl Gate for Counting {
     fn pass(&self, piece: usize) {
+        // Counted before it waits, since the other waits for this count.
         if piece < 16 {
             self.digits.fetch_add(1 << (4 * piece), Ordering::SeqCst);
         } else {

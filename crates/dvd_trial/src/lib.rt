@@ -1,6 +1,7 @@
 //! What tests of whole runs are written in: texts that say what is there, what is damaged, what is run and what must
 //! come. A table of cases in code would be a tree of values, through which the checker goes again for each function
-//! that names it. A text is one value, which a few small functions read while the test runs.
+//! that names it. A text is one value, which a few small functions read while the test runs. They have no clauses,
+//! since nothing but tests rests on them: only that they are safe and end is proved.
 //!
 //! ```text
 //! given: image of 17 sectors | master --sectors 17 makes 2 blocks | marked

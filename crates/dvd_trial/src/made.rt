@@ -1,11 +1,16 @@
 //! The steps by which bytes are made, as the head of `lib` lists them. Each adds bytes or changes those before it.
+//! This crate is for tests alone, so its functions have no clauses. None as an answer is a text that isn't of the form,
+//! or want of memory; steps that can't fail answer too, so that `do_step` has one form. Bytes are made here without the
+//! crates that are tested, but for what `master` and others write.
 use crate::amounts::{
     BLOCK_BYTES, MARKED_BLOCK_BYTES, MARKED_ROW_BYTES, ROW_BYTES, amount, byte, is, number,
 };
 use crate::damage::damage_bytes;
 use std::alloc::Global;
 
-/// Does a step that runs nothing, where there is such a step, and memory.
+/// Does a step that runs nothing, where there is such a step, and memory. `then`, `as` and `of` are there so that a
+/// text reads well. `as given` adds nothing, since a case has the bytes in common already. What begins with no verb is
+/// damage, which has a colon, or an amount, as `2 blocks of 5A`.
 pub fn do_step(alloc: Global, text: &str, bytes: &mut Vec<u8>) -> Option<()> {
     let text = text.strip_prefix("then ").unwrap_or(text);
     let (verb, rest) = text.split_once(' ').unwrap_or((text, ""));
@@ -31,6 +36,7 @@ pub fn do_step(alloc: Global, text: &str, bytes: &mut Vec<u8>) -> Option<()> {
 }
 
 // `front` keeps so many, `cut` all but the last; `from` moves so many to the end, `repeat` adds the last once more.
+// More than there are is refused here, so that no call below goes past the end.
 fn move_bytes(verb: &str, count: usize, bytes: &mut Vec<u8>) -> Option<()> {
     let rest = bytes.len().checked_sub(count)?;
     match verb {
@@ -64,7 +70,8 @@ fn add_value(bytes: &mut Vec<u8>, text: &str) -> Option<()> {
     bytes.resize(length, byte(value)?).ok()
 }
 
-// A 64-bit xorshift generator.
+// A 64-bit xorshift generator, since a test needs the same bytes each time. 13, 7 and 17 are shifts by which all
+// numbers but 0 come before one comes again. Digests in tests rest on them.
 #[derive(Drop)]
 struct Generator(u64);
 
@@ -77,7 +84,8 @@ impl Generator {
     }
 }
 
-// The bytes of an image are the top eight bits of what is drawn from 8. Any start but 0 would do; digests rest on this.
+// The bytes of an image are the top eight bits of what is drawn from 8. Any start but 0 would do, and any eight bits;
+// digests rest on these. `& 0xFF` shows that the number is a byte.
 fn add_image(count: usize, bytes: &mut Vec<u8>) -> Option<()> {
     let mut generator = Generator(8);
     for _ in 0..count {
@@ -86,6 +94,8 @@ fn add_image(count: usize, bytes: &mut Vec<u8>) -> Option<()> {
     Some(())
 }
 
+// A sector of which anyone can work out the bytes. 7i alone would come again after 256 bytes, so i / 256 is added: no
+// two parts of 256 bytes are alike, and one in the place of another is seen.
 fn add_counted(bytes: &mut Vec<u8>) -> Option<()> {
     for i in 0..2048usize {
         bytes.push((i * 7 + i / 256 & 0xFF) as u8).ok()?;
@@ -93,7 +103,8 @@ fn add_counted(bytes: &mut Vec<u8>) -> Option<()> {
     Some(())
 }
 
-// Frames in reverse order: all bytes are reversed, and then those of each frame again.
+// Frames in reverse order, for `assemble`: all bytes are reversed, and then those of each frame again. So no second
+// buffer is needed. A frame is a recording frame, a sixteenth of a block.
 fn reverse(bytes: &mut [u8]) -> Option<()> {
     bytes.reverse();
     for frame in bytes.chunks_exact_mut(BLOCK_BYTES / 16) {
@@ -102,7 +113,8 @@ fn reverse(bytes: &mut [u8]) -> Option<()> {
     Some(())
 }
 
-// Each row gets its marks after it, none of which is set.
+// Each row gets its marks after it, none of which is set. Bytes that aren't whole blocks are refused, as the text is
+// wrong.
 fn add_marks(alloc: Global, bytes: &mut Vec<u8>) -> Option<()> {
     let mut marked = Vec::new(alloc);
     for row in bytes.chunks_exact(ROW_BYTES) {
@@ -114,7 +126,8 @@ fn add_marks(alloc: Global, bytes: &mut Vec<u8>) -> Option<()> {
     Some(())
 }
 
-// Blocks of both halves in turn, as `merge` reads two captures.
+// Blocks of both halves in turn, as `merge` reads two captures. A text makes both one after the other. What is no whole
+// block at the end of a half is dropped.
 fn weave(alloc: Global, bytes: &mut Vec<u8>) -> Option<()> {
     let mut woven = Vec::new(alloc);
     let (first, second) = bytes.split_at(bytes.len() / 2);
@@ -142,7 +155,9 @@ fn draw_rows(capture: &mut [u8], seed: usize) -> Option<()> {
     Some(())
 }
 
-// The header, and after each block the number of its runs, and the runs.
+// The header, and after each block the number of its runs, and the runs: the listed form of docs/FORMATS.md. Each block
+// has the same runs, as tests need no more; without `runs` it has none. They are written as they are named, whether the
+// form has them so or not, so that a test can write a header or runs that break a rule.
 fn list(alloc: Global, bytes: &mut Vec<u8>, text: &str) -> Option<()> {
     let (header, runs) = text.split_once(" runs ").unwrap_or((text, ""));
     let mut listed = Vec::new(alloc);
@@ -175,6 +190,7 @@ fn add_header(listed: &mut Vec<u8>, text: &str) -> Option<()> {
     append_bytes(listed, &[0; 4])
 }
 
+// Runs as `0:2 5:1`: the number of runs, and the first place and the length of each.
 fn add_runs(listed: &mut Vec<u8>, text: &str) -> Option<()> {
     let count = text.split_whitespace().count();
     add_number(listed, count)?;
@@ -186,6 +202,8 @@ fn add_runs(listed: &mut Vec<u8>, text: &str) -> Option<()> {
     Some(())
 }
 
+// A number of runs, a place or a length, as the form has it: two bytes, the highest first. One that has no room is
+// refused.
 fn add_number(listed: &mut Vec<u8>, number: usize) -> Option<()> {
     append_bytes(listed, &u16::try_from(number).ok()?.to_be_bytes())
 }

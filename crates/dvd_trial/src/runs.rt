@@ -1,4 +1,5 @@
-//! One run and what it leaves.
+//! One run and what it leaves. This crate is for tests alone, so its functions have no clauses. A run here is that of
+//! the program: its arguments as words, its streams over memory by the adapters that `main` has, and its status.
 use crate::amounts::is;
 use crate::streams::{Input, Output, Plan, StreamCall, Watch};
 use dvd_par::Gate;
@@ -31,7 +32,7 @@ impl Left {
         }
     }
 
-    /// Whether both runs had memory and left the same.
+    /// Whether both runs had memory and left the same. How much they read isn't compared.
     pub fn is_same(&self, other: &Left) -> Option<()> {
         is(
             self.status == other.status
@@ -42,7 +43,8 @@ impl Left {
     }
 }
 
-/// The words of this text as arguments; `no words` are none.
+/// The words of this text as arguments; `no words` are none, since an empty text says that no run is named yet. No
+/// argument of a test has a blank in it.
 pub fn words_of(alloc: Global, text: &str) -> Option<Vec<String>> {
     let mut words = Vec::new(alloc);
     let text = if text == "no words" { "" } else { text };
@@ -52,7 +54,9 @@ pub fn words_of(alloc: Global, text: &str) -> Option<Vec<String>> {
     Some(words)
 }
 
-/// Runs the arguments over these bytes, where the workers ask this gate. Answers whether nothing was tried again.
+/// Runs the arguments over these bytes, where the workers ask this gate. Answers whether nothing was tried again: so
+/// each run of each text tests that. The buffers of `left` are emptied and used again, so it is handed over by the
+/// caller.
 pub fn run_over<R: AllocGlobal + Threads + Sync, G: Gate>(
     rt: &R,
     gate: &G,

@@ -1,6 +1,8 @@
 //! Streams that go in pieces and fail at one call, and see that nothing is tried again: after a failed call, and after
 //! a read that met the end of the input, no stream is asked for anything more but the report, for the closing line;
-//! and after a fault of the report not even that.
+//! and after a fault of the report not even that. This crate is for tests alone, so its functions have no clauses. They
+//! are std's readers and writers, and not sources and sinks, so that a run goes by the adapters that `main` has,
+//! flushes included.
 use std::cell::Cell;
 use std::io::{self, Error, ErrorKind, Read, Write};
 
@@ -14,7 +16,8 @@ pub enum StreamCall {
     FlushReport,
 }
 
-/// The most bytes of a call of any stream, and the one call that fails: its kind, and how many come before it.
+/// The most bytes of a call of any stream, and the one call that fails: its kind, and how many of the kind come before
+/// it.
 #[derive(Clone, Copy, PartialEq, Eq)]
 pub struct Plan {
     pub step: usize,
@@ -22,7 +25,8 @@ pub struct Plan {
     pub count: u64,
 }
 
-/// No call fails. A run leaves the same by any step; by a long one it is quick.
+/// No call fails: no run makes so many. A run leaves the same by any step; by a long one it is quick. 40,000 bytes are
+/// more than a block as it is recorded.
 pub const SOUND: Plan = Plan {
     step: 40_000,
     call: StreamCall::Read,
@@ -50,7 +54,8 @@ impl Watch {
         }
     }
 
-    /// Whether nothing but the closing line came after a call that stopped.
+    /// Whether nothing but the closing line came after a call that stopped. Lines are counted and not calls, since a
+    /// line may go in many. None at all is right too, as after a fault of the report.
     pub fn is_kept(&self) -> bool {
         !self.is_late.get() && self.lines.get() <= 1
     }
@@ -66,7 +71,7 @@ impl Watch {
     }
 }
 
-/// The input.
+/// The input. Its fields are public, since `runs` makes it; `calls` is the number of calls before the next.
 #[derive(Drop)]
 pub struct Input<'a> {
     pub watch: &'a Watch,
@@ -85,6 +90,8 @@ impl<'a> Read for Input<'a> {
             return Err(self.watch.stop());
         }
         let count = self.watch.plan.step.min(buf.len().min(self.rest.len()));
+        // The end of the input, since a source never asks with an empty buffer. It is no error, so the one made is
+        // dropped.
         if count == 0 {
             let _ = self.watch.stop();
         }
@@ -97,7 +104,8 @@ impl<'a> Read for Input<'a> {
     }
 }
 
-/// The output, or the report.
+/// The output, or the report: `call` is Write or Report. `held` is what it got, `calls` the number of calls before the
+/// next.
 #[derive(Drop)]
 pub struct Output<'a> {
     pub watch: &'a Watch,
@@ -108,7 +116,8 @@ pub struct Output<'a> {
 }
 
 impl<'a> Output<'a> {
-    // Sees a call that comes after one that stopped.
+    // Sees a call that comes after one that stopped. Of the output any is late, and of the report any after its own
+    // fault. Else it may be of the closing line: a line begins where nothing or a whole line is held.
     fn see(&self) {
         if !self.watch.has_stopped.get() {
             return;
@@ -134,11 +143,13 @@ impl<'a> Write for Output<'a> {
         let call = self.calls;
         self.calls = call.saturating_add(1);
         let count = self.watch.plan.step.min(buf.len());
+        // A sink never writes an empty piece, so 0 bytes come only of a step of 0, which a text may name.
         if self.watch.fails(self.call, call) || count == 0 {
             return Err(self.fail());
         }
         match self.held.extend_from_slice(&buf[..count]) {
             Ok(()) => Ok(count),
+            // Want of memory of the test: the run sees a fault, and the line that wants another status doesn't hold.
             Err(_) => Err(self.fail()),
         }
     }

@@ -1,4 +1,7 @@
-//! The lines of a text: which bytes are made, which arguments are run, and what has to come.
+//! The lines of a text: which bytes are made, which arguments are run, and what has to come. The head of `lib` lists
+//! them. This crate is for tests alone, so its functions have no clauses. None as an answer is a line that doesn't hold
+//! or can't be read, or want of memory: whichever it is, the test fails, and the line is printed. Lists are swapped and
+//! not copied where that does, since a copy needs memory and may fail.
 use crate::amounts::{amount, is, spell};
 use crate::made::{add_lines, append_bytes, do_step};
 use crate::runs::{Left, run_over};
@@ -34,12 +37,13 @@ pub struct TrialState<'a, R> {
     pub kept: Left,
 }
 
-/// The bytes that these steps make, from none.
+/// The bytes that these steps make, from none. For tests that compare bytes themselves.
 pub fn bytes_of<R: AllocGlobal + Threads + Sync>(rt: &R, text: &str) -> Option<Vec<u8>> {
     TrialState::new(rt).made(text, Vec::new(rt.alloc()))
 }
 
 impl<'a, R: AllocGlobal + Threads + Sync> TrialState<'a, R> {
+    /// Nothing is made and no run is named: a text that asks for a result before its first `run` doesn't hold.
     pub fn new(rt: &'a R) -> TrialState<'a, R> {
         let alloc = rt.alloc();
         TrialState {
@@ -74,7 +78,8 @@ impl<'a, R: AllocGlobal + Threads + Sync> TrialState<'a, R> {
         Some(())
     }
 
-    // Whether a line holds, for each of its cases.
+    // Whether a line holds, for each of its cases. The first `spell` counts them. The line that doesn't hold is kept as
+    // it was spelt, to be printed.
     fn line_holds(&mut self, line: &str) -> Option<()> {
         let (line, _) = line.split_once('#').unwrap_or((line, ""));
         let mut spelt = String::new(self.alloc);
@@ -88,6 +93,9 @@ impl<'a, R: AllocGlobal + Threads + Sync> TrialState<'a, R> {
         Some(())
     }
 
+    // Does the part before an arrow, and then runs and compares; without an arrow there is the part alone. After `->`
+    // the run is done once for each of its arguments, after `=>` also in pieces. An arrow is looked for first, since
+    // what has to come has colons too.
     fn case_holds(&mut self, line: &str) -> Option<()> {
         if let Some((part, wanted)) = line.split_once("->") {
             self.part_holds(part.trim())?;
@@ -101,6 +109,9 @@ impl<'a, R: AllocGlobal + Threads + Sync> TrialState<'a, R> {
         self.comes_in_pieces()
     }
 
+    // One verb and what it is done to: verbs that set something, then those that ask for something. An empty part
+    // holds, as a line that only repeats the run has one. `at 2 blocks` has its amount before the colon, so it is what
+    // is left.
     fn part_holds(&mut self, part: &str) -> Option<()> {
         let (verb, rest) = part.split_once(": ").unwrap_or((part, ""));
         match verb {
@@ -117,7 +128,8 @@ impl<'a, R: AllocGlobal + Threads + Sync> TrialState<'a, R> {
         }
     }
 
-    // The bytes in common are also those of a case, until it gets its own.
+    // The bytes in common are also those of a case, until it gets its own. `given` and `output` begin with no bytes,
+    // the others with those in common. New bytes in common make the output any, but `also` only changes them.
     fn make(&mut self, verb: &str, text: &str) -> Option<()> {
         let bytes = match verb {
             "also" | "case" | "twin" => self.given.clone().ok()?,
@@ -157,6 +169,8 @@ impl<'a, R: AllocGlobal + Threads + Sync> TrialState<'a, R> {
         Some(bytes)
     }
 
+    // Keeps the arguments of a run: `run` in place of others, `or` after them. They are one text with ` or ` in it,
+    // which is taken apart at each run: no argument is the word `or`.
     fn put_words(&mut self, verb: &str, text: &str) -> Option<()> {
         if verb == "run" {
             self.words.clear();
@@ -166,14 +180,17 @@ impl<'a, R: AllocGlobal + Threads + Sync> TrialState<'a, R> {
         self.words.push_str(text).ok()
     }
 
-    /// Runs the arguments of this number over the bytes of the case, where there are such.
+    /// Runs the arguments of this number over the bytes of the case, where there are such. What it leaves is in `left`,
+    /// and `last` says which ran, to be printed. No worker waits at its gate.
     pub fn go(&mut self, k: usize, plan: Plan) -> Option<()> {
         self.last = k;
         let words = self.words.split(" or ").nth(k)?;
         run_over(self.rt, &OpenGate, words, &self.case, plan, &mut self.left)
     }
 
-    // The runs leave what is wanted, each the same. It is kept: by a swap, which needs no memory. The plan is for once.
+    // The runs leave what is wanted, each the same. It is kept, as later lines ask for it: by a swap, which needs
+    // no memory. The plan is for once: for these runs, and the next ones are sound again. Without a run nothing can
+    // come.
     fn comes(&mut self, wanted: &str) -> Option<()> {
         let plan = replace(&mut self.plan, SOUND);
         is(!self.words.is_empty())?;
@@ -183,7 +200,7 @@ impl<'a, R: AllocGlobal + Threads + Sync> TrialState<'a, R> {
         self.stays(1, plan)
     }
 
-    /// The runs from this one on leave what is kept.
+    /// The runs from this one on leave what is kept. `comes` has done the first already; others do all.
     pub fn stays(&mut self, first: usize, plan: Plan) -> Option<()> {
         for k in first..self.words.split(" or ").count() {
             self.go(k, plan)?;
@@ -192,8 +209,9 @@ impl<'a, R: AllocGlobal + Threads + Sync> TrialState<'a, R> {
         Some(())
     }
 
-    // Whether the last run left this: status, length of the output and report. Wrong arguments, or a setting that can't
-    // be, must have been found before anything was read.
+    // Whether the last run left this: status, by its name in the code, length of the output and report. Only a prefix
+    // of the output need come, as its length is stated. Wrong arguments, or a setting that can't be, must have been
+    // found before anything was read.
     fn has_come(&self, wanted: &str) -> Option<()> {
         let (status, rest) = wanted.split_once(", ")?;
         let (length, report) = rest.split_once(": ")?;
@@ -230,6 +248,8 @@ impl<'a, R: AllocGlobal + Threads + Sync> TrialState<'a, R> {
         self.left.is_same(&self.kept)
     }
 
+    // Whether this holds of what is kept: how much was read, the end of the output's last line, or else the SHA-256
+    // digest of the output, so that a whole one is compared with what it was when the test was written.
     fn has(&self, verb: &str, rest: &str) -> Option<()> {
         let output = self.kept.output.as_slice();
         match verb {
@@ -242,6 +262,7 @@ impl<'a, R: AllocGlobal + Threads + Sync> TrialState<'a, R> {
         }
     }
 
+    // Whether these bytes are in the output that is kept, from this byte on.
     fn has_bytes(&self, at: usize, digits: &str) -> Option<()> {
         let wanted = hex::decode(self.alloc, digits).ok()?;
         is(self.kept.output.get(at..)?.starts_with(&wanted))

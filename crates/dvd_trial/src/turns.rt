@@ -1,4 +1,7 @@
-//! Runs that go in pieces, or in which something fails in turn, or whose workers are counted.
+//! Runs that go in pieces, or in which something fails in turn, or whose workers are counted. `kept` is the
+//! result that a line stated last, with which `left`, that of the run at hand, is compared; a `Plan` is how many bytes
+//! a call moves, and the one call that fails. This crate is for tests alone, so its functions have no clauses. None as
+//! an answer is a line that doesn't hold or can't be read, or want of memory.
 use crate::amounts::{amount, is, number};
 use crate::gate::Counting;
 use crate::runs::{Left, run_over};
@@ -10,7 +13,9 @@ use dvd_top::Status;
 use std::thread::Threads;
 
 impl<'a, R: AllocGlobal + Threads + Sync> TrialState<'a, R> {
-    /// `700 bytes a call`, which `, call 2 fails` may follow: what the streams of the next run do.
+    /// `700 bytes a call`, which `, call 2 fails` may follow: what the streams of the next run do. Calls are counted
+    /// from 0. The verb names the kind of the call that fails; so many bytes a call are for all streams. Without a
+    /// failing call the rest is as in `SOUND`.
     pub fn set_plan(&mut self, verb: &str, text: &str) -> Option<()> {
         let (step, rest) = text.split_once(" a call")?;
         let (step, call) = (amount(step)?, call_of(verb)?);
@@ -23,7 +28,8 @@ impl<'a, R: AllocGlobal + Threads + Sync> TrialState<'a, R> {
         Some(())
     }
 
-    /// The runs leave the same where each stream moves so many bytes a call.
+    /// The runs leave the same where each stream moves so many bytes a call. Any steps would do: these are the least,
+    /// two shorter than a sector, and one longer than a block as it is recorded.
     pub fn comes_in_pieces(&mut self) -> Option<()> {
         for step in &[1, 7, 2047, 40_000] {
             self.stays(
@@ -39,7 +45,7 @@ impl<'a, R: AllocGlobal + Threads + Sync> TrialState<'a, R> {
 
     /// `9 reads of 5000 bytes, 16 writes of 700 bytes`: these are all calls of a stream, and where one of them fails,
     /// all that was done before it is left. Last the call after these is to fail, which doesn't come: so the runs leave
-    /// the same.
+    /// the same, and the number of calls is exact. Where one fails only the first arguments are run.
     pub fn fail_in_turn(&mut self, text: &str) -> Option<()> {
         for part in text.split(", ") {
             let (calls, part) = part.split_once(' ')?;
@@ -65,7 +71,8 @@ impl<'a, R: AllocGlobal + Threads + Sync> TrialState<'a, R> {
         Some(())
     }
 
-    // It left what a run over only the bytes that it read leaves, with the fault in place of the closing line.
+    // It left what a run over only the bytes that it read leaves, with the fault in place of the closing line. That run
+    // ends by its input's end, and how it closes doesn't count: one more line comes, whichever it is.
     fn leaves_prefix_read(&self) -> Option<()> {
         let words = self.words.split(" or ").next()?;
         let read = self.case.get(..self.left.read)?;
@@ -80,7 +87,8 @@ impl<'a, R: AllocGlobal + Threads + Sync> TrialState<'a, R> {
         )
     }
 
-    // It wrote a prefix, and reported some of the lines, not the last one, and then the fault.
+    // It wrote a prefix, and reported some of the lines, not the last one, and then the fault. Whole lines: a line that
+    // was begun would be no line of the report.
     fn leaves_prefix_written(&self) -> Option<()> {
         let (left, kept) = (&self.left, &self.kept);
         let lines = left.report.strip_suffix(b"write fault\n")?;
@@ -93,7 +101,8 @@ impl<'a, R: AllocGlobal + Threads + Sync> TrialState<'a, R> {
         )
     }
 
-    // Its output and its report are prefixes. Where the closing line failed, all was written.
+    // Its output and its report are prefixes. Where the closing line failed, all was written: what is missing of the
+    // report is then of one line alone. No line says the fault, as the report has failed.
     fn leaves_prefix_reported(&self) -> Option<()> {
         let (left, kept) = (&self.left, &self.kept);
         let rest = kept.report.strip_prefix(left.report.as_slice())?;
@@ -120,7 +129,8 @@ impl<'a, R: AllocGlobal + Threads + Sync> TrialState<'a, R> {
         Some(())
     }
 
-    // Over all bytes of the case, and over all but the last one.
+    // Over all bytes of the case, and over all but the last one. `run_over` tests that nothing is tried again. A run
+    // that isn't done has to have a reason for it: a call that failed, or the end of the input.
     fn stops(&mut self, k: usize, plan: Plan) -> Option<()> {
         let words = self.words.split(" or ").nth(k)?;
         let length = self.case.len();
@@ -151,6 +161,8 @@ impl<'a, R: AllocGlobal + Threads + Sync> TrialState<'a, R> {
     }
 }
 
+// The kind of call that a text names, one or many. Flushes have no name: only `stop_in_turn` lets them fail, all in
+// turn.
 fn call_of(name: &str) -> Option<StreamCall> {
     match name.strip_suffix('s').unwrap_or(name) {
         "read" => Some(Read),
@@ -160,7 +172,8 @@ fn call_of(name: &str) -> Option<StreamCall> {
     }
 }
 
-// Whether this is a line, or the end of one, and nothing comes after it.
+// Whether this is a line, or the end of one, and nothing comes after it. A write may have taken the beginning of the
+// line.
 fn is_last_line(text: &[u8]) -> bool {
     match text.strip_suffix(b"\n") {
         Some(line) => !line.contains(&b'\n'),
