@@ -32,7 +32,8 @@ use std::alloc::Global;
 #[repr(C)]
 #[derive(Clone, Copy)]
 pub struct Report {
-    /// In how many places the block differs from what was received, or 0 where there is a cause.
+    /// In how many places the block differs from what was received, or 0 where there is a cause. A marked place whose
+    /// byte was right isn't counted, as it needed no correction.
     pub corrected: u32,
     /// How many rows failed in the first pass, or 0 where there is a cause.
     pub failed_rows: u32,
@@ -41,7 +42,7 @@ pub struct Report {
 }
 
 /// Sets the parity of a block: the last ten bytes of each row and the last sixteen rows. It is set in place, so it
-/// takes no memory and has no status.
+/// takes no memory and has no status: any data have a parity. The first 172 bytes of rows 0 to 191 stay.
 #[unsafe(no_mangle)]
 pub extern "C" fn dvdecc_block_parity(rows: &mut [[u8; 182]; 208])
     ensures { IsParityAdded rows.old rows.new }

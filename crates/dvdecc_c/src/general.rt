@@ -19,7 +19,8 @@ use rs_code::Code;
 
 // Calls a function that has the number of parity bytes as a parameter of its type, for the number that is at hand. A
 // type can't be chosen by a number when the call comes, so all of them are compared with it in turn. They rise by 1, so
-// the first that isn't below the number is the number; what is left is the last.
+// the first that isn't below the number is the number; what is left is the last, so each path answers. `given` is the
+// list of arguments, with its parentheses.
 macro_rules! by_parity {
     ($parity:ident, $call:ident, $given:tt: $($most:literal)*; $last:literal) => {{
         $(if $parity <= $most {

@@ -75,8 +75,8 @@ pub extern "C" fn dvdecc_cd_repair(sector: &mut [u8; 2352], address: u32, number
     }
 }
 
-// The status of a cause, and its number where it has one. A wrong EDC has no number, and leaves the caller's. Both
-// calls answer by it, so that a cause has one status.
+// The status of a cause, and its number where it has one: the first word, the mode or the address that is wrong. A
+// wrong EDC has no number, and leaves the caller's. Both calls answer by it, so that a cause has one status.
 fn report_cause(cause: CdCause, number: &mut u32) -> u32
     ensures reported { answered result number.new ≡ Some (Some cause) }
     ensures number { number.new ≡ with_number result number.new number.old }

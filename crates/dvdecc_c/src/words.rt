@@ -22,7 +22,7 @@ use rs_decode::decode;
 pub struct Correction {
     /// How many places that weren't lost changed.
     pub errors: u32,
-    /// How many places were lost.
+    /// How many places were lost, also those whose byte was right.
     pub erasures: u32,
 }
 
