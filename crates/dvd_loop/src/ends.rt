@@ -19,7 +19,7 @@ pub enum LoopEnd {
     WriteFault,
     /// A line of the report couldn't be written.
     ReportFault,
-    /// The input ended in this unit, after this number of its bytes.
+    /// The input ended in this unit, after this number of its bytes: 0 where none of it came.
     Short { unit: u32, bytes: u32 },
     /// One byte more came than was expected. How many more there are isn't known: none is read after it.
     Long,
@@ -99,5 +99,6 @@ pub enum AfterLast {
     NoControl,
 }
 
-/// What processing a unit answers: its kind, or how the loop ends within it.
+/// What processing a unit answers: its kind, or how the loop ends within it. A `Result`, so that `?` ends a unit at the
+/// first fault.
 pub type Processed = Result<UnitKind, LoopEnd>;

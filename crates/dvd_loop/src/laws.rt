@@ -1,6 +1,7 @@
 //! What holds of the runs of every command: each function's contract is one law, and its body is empty. Nobody calls
 //! them. They are public because what they ensure is promised of the crate. The streams are type parameters, as a
-//! command has them, and no law reads or writes one.
+//! command has them, and no law reads or writes one. `()` is all that a call gives: what counts is that the clause is
+//! proved.
 //!
 //! A law is about the units of a command, for any key: what of a command its units depend on, as its layout. The units
 //! say how many there are, how the bytes of each begin, and what steps may be done for it: writes and lines. An outcome

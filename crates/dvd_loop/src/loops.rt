@@ -50,7 +50,7 @@ pub fn run_units<C: UnitCommand<S, K, E>, S: Source, K: Sink, E: Sink>(
 }
 
 /// Likewise for a command that is handed over, where the caller doesn't need what it leaves. So it has no clause of the
-/// command after the loop, and callers have none to prove.
+/// command after the loop, and callers have none to prove. The command is `Drop`, since it is let go of at the end.
 pub fn run_owned<C: UnitCommand<S, K, E> + Drop, S: Source, K: Sink, E: Sink>(
     command: C,
     src: &mut S,

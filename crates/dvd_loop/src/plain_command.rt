@@ -47,7 +47,8 @@ pub trait PlainCommand<S: Source, K: Sink, E: Sink> {
 
 // A plain command as the loop sees it: it opens and closes with nothing, and one more byte is requested after its last
 // unit.
-// A type of its own: where a trait has parameters, an impl for all plain commands could clash with another.
+// A type of its own: where a trait has parameters, an impl for all plain commands could clash with another. It is
+// `Drop`, since `run_owned` lets go of it.
 #[derive(Drop)]
 struct Plain<P> {
     command: P,
