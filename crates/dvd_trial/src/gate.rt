@@ -1,6 +1,7 @@
 //! A gate that counts the calls of each piece, and may let two workers wait for each other. A pass over a block is
 //! shared out in pieces, one for each worker, and asks the gate at the start of each. No contract says that two threads
 //! run at the same time, so a test has to see it: two pieces that wait for each other both go on only where it is so.
+//! `derive(Drop)` lets an owner let go of a value.
 use dvd_par::Gate;
 use std::sync::atomic::{AtomicU64, Ordering};
 

@@ -1,5 +1,6 @@
 //! One run and what it leaves. This crate is for tests alone, so its functions have no clauses. A run here is that of
 //! the program: its arguments as words, its streams over memory by the adapters that `main` has, and its status.
+//! `derive(Drop)` lets an owner let go of a value.
 use crate::amounts::is;
 use crate::streams::{Input, Output, Plan, StreamCall, Watch};
 use dvd_par::Gate;

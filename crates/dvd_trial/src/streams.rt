@@ -2,7 +2,7 @@
 //! a read that met the end of the input, no stream is asked for anything more but the report, for the closing line;
 //! and after a fault of the report not even that. This crate is for tests alone, so its functions have no clauses. They
 //! are std's readers and writers, and not sources and sinks, so that a run goes by the adapters that `main` has,
-//! flushes included.
+//! flushes included. `derive(Drop)` lets an owner let go of a value.
 use std::cell::Cell;
 use std::io::{self, Error, ErrorKind, Read, Write};
 

@@ -1,7 +1,7 @@
 //! The lines of a text: which bytes are made, which arguments are run, and what has to come. The head of `lib` lists
 //! them. This crate is for tests alone, so its functions have no clauses. None as an answer is a line that doesn't hold
 //! or can't be read, or want of memory: whichever it is, the test fails, and the line is printed. Lists are swapped and
-//! not copied where that does, since a copy needs memory and may fail.
+//! not copied where that does, since a copy needs memory and may fail. `derive(Drop)` lets an owner let go of a value.
 use crate::amounts::{amount, is, spell};
 use crate::made::{add_lines, append_bytes, do_step};
 use crate::runs::{Left, run_over};
