@@ -127,7 +127,8 @@ pub fn recorded(row: usize) -> usize {
     }
 }
 
-// Hits byte `at` of a row of this length, which is counted from the first row of all.
+// Hits byte `at` of a row of this length, which is counted from the first row of all. Bytes 182 and 183 are for
+// `doubtful by 00` alone: there the byte itself would be one of marks, and has to stay.
 // A row in the marked form has its marks after it. The high bit of their first byte is that of the row's first byte. A
 // hit without a mark is of the plain form, or of a sector.
 fn hit_at(row: usize, at: usize, length: usize, hit: Hit, bytes: &mut [u8]) {
