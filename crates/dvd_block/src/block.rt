@@ -40,7 +40,7 @@ impl Block {
         })
     }
 
-    /// Row `i`. Only tests call it; whoever writes or reads many rows has them by `lines`.
+    /// Row `i`, for programs on this crate that want one row: whoever reads or writes many has them by `lines`.
     pub fn row(&self, i: usize) -> &[u8; 182]
         requires { i < 208 }
         ensures { result.now ≡ line (block_rows self.now) i }
@@ -60,8 +60,8 @@ impl Block {
         put_rows(&mut self.lines.rows_mut()[12 * f..12 * f + 12], frame);
     }
 
-    /// Writes frame `f`: places 0 to 171 of rows 12f to 12f+11. Only tests call it: commands read frames from captured
-    /// rows, which are no `Block`.
+    /// Writes frame `f`: places 0 to 171 of rows 12f to 12f+11. It undoes `put_frame`,
+    /// for programs on this crate: the commands here read frames from captured rows, which are no `Block`.
     pub fn get_frame(&self, f: usize, out: &mut [u8; 2064])
         requires { f < 16 }
         ensures { HoldsFrame f out.new (block_rows self.now) }
@@ -81,8 +81,8 @@ impl Block {
         self.cells.clear();
     }
 
-    /// Whether each row and each column is a codeword. Only tests call it: the C library has rows and no `Block`, and
-    /// calls the function of `parity`.
+    /// Whether each row and each column is a codeword. It is for programs on this crate: the C library has rows and no
+    /// `Block`, and calls the function of `parity`.
     pub fn is_product(&self) -> bool
         ensures { IsTrue result ↔ IsProduct (block_rows self.now) }
     {

@@ -19,9 +19,9 @@ pub fn row_of_record(m: usize) -> usize
     }
 }
 
-/// The recorded row that row `i` of the block is. It undoes `row_of_record`. Only tests call it: the code that reads
-/// and writes recordings goes by recorded rows. The clause `inverse` of both says that no row is recorded twice or left
-/// out.
+/// The recorded row that row `i` of the block is. It undoes `row_of_record`. It is for programs on this crate: the code
+/// here that reads and writes recordings goes by recorded rows. The clause `inverse` of both says that no row is
+/// recorded twice or left out.
 pub fn record_of_row(i: usize) -> usize
     requires { i < 208 }
     ensures value { result ≡ record_at i }

@@ -15,9 +15,9 @@ use rs_lanes::{
 };
 use std::simd::prelude::*;
 
-/// Keeps the first 172 bytes of a row and sets the last ten so that it is a codeword. No code calls it or
-/// `column_parity`: the C library encodes a word by its code itself. Each is for one word alone, and uses no vectors,
-/// which would compute 32 words.
+/// Keeps the first 172 bytes of a row and sets the last ten so that it is a codeword. This and
+/// `column_parity` are for programs on this crate that change single rows or columns: the programs here have whole
+/// blocks. They use no vectors, which would compute 32 words for the one that is wanted.
 pub fn row_parity(code: &Pi, row: &mut [u8; 182])
     ensures { IsEncoded 182 10 (take 172 row.old) row.new }
 {

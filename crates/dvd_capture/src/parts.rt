@@ -299,7 +299,7 @@ impl Answers {
 }
 
 impl ColumnAnswer {
-    /// Sets both fields. Only tests call it: decoders set each field in its place.
+    /// Sets both fields, for decoders outside this house: those here set each field in its place.
     pub fn set(&mut self, bytes: &[u8; 208], answered: bool)
         ensures bytes { self.new.bytes ≡ bytes.now }
         ensures answered { self.new.answered ≡ answered }
@@ -357,7 +357,8 @@ impl Sectors {
         Ok(Sectors { all })
     }
 
-    /// Sets sector `f`, and nothing else. Only tests call it: decoders write a sector in place, by `sector_mut`.
+    /// Sets sector `f`, and nothing else, for decoders outside this house: those here write it in place, by
+    /// `sector_mut`.
     pub fn set(&mut self, f: usize, main: &[u8; 2048])
         requires { f < 16 }
         ensures { sector_bytes self.new ≡ slice_set (sector_bytes self.old) f main.now }

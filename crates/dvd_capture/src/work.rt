@@ -181,8 +181,8 @@ impl Work {
         self.answers.rows()[i].fix
     }
 
-    /// Byte `j` of the codeword near row `i`. A failed row has none, which a clause excludes. No code calls it: a
-    /// survey asks for `answer` alone, and decoders read the buffer.
+    /// Byte `j` of the codeword near row `i`. A failed row has none, which a clause excludes. It is for programs on
+    /// this crate that ask for single bytes: a survey asks for `answer` alone, and decoders read the buffer.
     pub fn answer_byte(&self, i: usize, j: usize) -> u8
         requires stage { HasAnswers (stage_of self.now) }
         requires row { i < 208 }

@@ -55,8 +55,8 @@ impl Deep {
         round
     }
 
-    /// The byte in row `i` at place `j` of the block that the last search found. Only tests call it: `deep` asks for
-    /// the Main Data, by `sectors`.
+    /// The byte in row `i` at place `j` of the block that the last search found. It is for programs on this
+    /// crate that ask for single bytes: `deep` asks for the Main Data, by `sectors`.
     pub fn byte(&self, i: usize, j: usize) -> u8
         requires found { IsTrue (has_found self.now) }
         requires row { i < 208 }

@@ -47,9 +47,9 @@ impl Rule {
     }
 }
 
-/// The initial value of the register at one of the 16 places of the standard's table. No other crate calls it or has a
-/// `Keystream`: they are public for the tests alone, which name them at the crate's root and compare both with worked
-/// values.
+/// The initial value of the register at one of the 16 places of the standard's table. It and `Keystream` are public
+/// for programs that scramble bytes of their own, and because worked values from outside are stated of them: the crates
+/// here scramble whole frames.
 pub fn preset(index: u8) -> u16
     requires { index < 16 }
     ensures value { result ≡ slice_index presets index }

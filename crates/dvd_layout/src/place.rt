@@ -1,5 +1,6 @@
 //! Where image sectors are on the disk.
-//! Commands go by the plan, block by block, and ask for no single sector: only tests call `sector_of` and `lba_of`.
+//! Commands go by the plan, block by block, and ask for no single sector: `sector_of` and `lba_of` are for programs on
+//! this crate that do.
 //! That the plan agrees with `sector_of` is the law `plan_follows_places`.
 ghost use Rattle.std.specs.Prelude.{◌≡◌, ◌↔◌, ℕ, ◌<◌, ◌≤◌, Some, IfSome};
 ghost use Rattle.dvd_layout.specs.Lengths.{has_two_layers};

@@ -14,15 +14,17 @@ use crate::UnitCommand;
 use dvd_ports::{Sink, Source};
 
 /// Two outcomes over the same bytes that no fault ended have the same output, report and end. So much is read as well,
-/// but for a unit whose bytes break a rule: a command may stop in it early or late. It is assumed that one list of
-/// steps and one kind may come of each unit, and that bytes after a unit don't change where it ends or that it breaks a
-/// rule.
+/// but for a unit whose bytes break a rule: a command may stop in it early or late. Two conditions are within the
+/// clause, and dvd_commands proves them for each command: one list of steps and one kind may come of each unit, and
+/// bytes after a unit don't change where it ends or that it breaks a rule.
 pub fn outcomes_agree<C: UnitCommand<S, K, E>, S: Source, K: Sink, E: Sink>()
     ensures { (key : C.Key) → OutcomesAgree (C.units key) }
 {}
 
-/// Any bytes have an outcome that no fault ended. It is assumed that they always begin with a whole unit, or a part of
-/// one, or one that breaks a rule, and that some steps may be done for each unit and after the last.
+/// Any bytes have an outcome that no fault ended. Without it, the contract of a loop, which says that an outcome is one
+/// that the units allow, could allow none, and `outcomes_agree` could speak of nothing. Its conditions are within the
+/// clause, and dvd_commands proves them for each command: the bytes always begin with a whole unit, or a part of one,
+/// or one that breaks a rule, and some steps may be done for each unit and after the last.
 pub fn an_outcome_exists<C: UnitCommand<S, K, E>, S: Source, K: Sink, E: Sink>()
     ensures { (key : C.Key) → OutcomeExists (C.units key) }
 {}
@@ -34,8 +36,7 @@ pub fn a_read_fault_ends_the_input<C: UnitCommand<S, K, E>, S: Source, K: Sink, 
 {}
 
 /// For each outcome, also one that a fault ended, there is one of the same bytes that no fault ended, whose output and
-/// report begin with those of the first. It is assumed, as for `an_outcome_exists`, that something may be done in each
-/// case.
+/// report begin with those of the first. Its conditions are those of `an_outcome_exists`.
 pub fn faults_leave_prefixes<C: UnitCommand<S, K, E>, S: Source, K: Sink, E: Sink>()
     ensures { (key : C.Key) → FaultsLeavePrefixes (C.units key) }
 {}

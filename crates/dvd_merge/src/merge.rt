@@ -53,8 +53,8 @@ impl Merge {
         self.codes.fill([UNSEEN; 182]);
     }
 
-    /// Joins a byte into row `i` at place `j`. All else stays. Only tests call it, for one byte by itself, which goes
-    /// by the plain `join` of two places: programs join whole rows, by `take_row`.
+    /// Joins a byte into row `i` at place `j`. All else stays. It is for programs on this crate that have single
+    /// bytes, and goes by the plain `join` of two places: the commands here join whole rows, by `take_row`.
     pub fn see(&mut self, i: usize, j: usize, byte: u8)
         requires row { i < 208 }
         requires place { j < 182 }

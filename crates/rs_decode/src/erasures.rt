@@ -18,8 +18,8 @@ use thiserror::Error;
 pub struct NoCodeword;
 
 /// Sets the bytes at the marked places so that `word` is a codeword, and answers how many places are marked. The bytes
-/// that were there don't count. After an error the word is unchanged. Only tests call it, which try `fill_from` by it:
-/// decoders have syndromes at hand, and call that.
+/// that were there don't count. After an error the word is unchanged. It is for programs on this crate that have
+/// only the word: decoders here have its syndromes at hand, and call `fill_from`.
 pub fn fill<const N: usize, const R: usize>(
     code: &Code<N, R>,
     word: &mut [u8; N],
