@@ -30,8 +30,9 @@ impl Deep {
     }
 }
 
-// Writes the Main Data of the frames of a block, or zeros if there is a cause. So no sector is given of a block with a
-// wrong frame.
+// Writes the Main Data of the frames of a block, or zeros if there is a cause: rounds beyond the two passes can make
+// wrong codewords, so of a block that they made with a wrong frame nothing is believed. The command salvages frames of
+// such a block from what the two passes made of its rows, and writes nothing of this buffer.
 fn read_frames(rows: &Rows, plan: &BlockPlan, out: &mut [u8]) -> Result<(), Cause>
     requires size { length out.old ≡ 32768 }
     requires numbers { HasNumbers plan.now }
