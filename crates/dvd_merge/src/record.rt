@@ -43,7 +43,8 @@ fn fill_record(values: &[u8; 182], codes: &[u8; 182], row: &mut [u8; RECORD])
     fill_bits(codes, bits);
 }
 
-// The byte of each place. The last of six groups of 32 begins within the one before, and writes the same bytes there.
+// The byte of each place, and 0 where none is known. The last of six groups of 32 begins within the one before, and
+// writes the same bytes there.
 fn fill_bytes(values: &[u8; 182], codes: &[u8; 182], bytes: &mut [u8])
     requires { length bytes.old ≡ 182 }
     ensures { bytes.new ≡ map byte_of (row_of values.now codes.now) }

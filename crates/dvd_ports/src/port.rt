@@ -27,11 +27,13 @@ pub struct NoMemory;
 /// Where bytes come from.
 pub trait Source {
     /// The bytes that are left, where they are known; the counts of faults and of ends; and whether the last call
-    /// failed or met the end. By the last a contract asks that nothing is tried again: no other call may come after it.
+    /// failed or met the end. By the last the contracts of callers say that they try nothing again: their last call is
+    /// the one that failed or met the end. It asks nothing of the stream, which may answer a further call as it likes.
     ghost seen: { Self → Seen };
 
-    /// Moves bytes to the beginning of `buf` and returns their number. Into a buffer with room, 0 is the end of the
-    /// input. With an empty buffer nothing is moved and nothing changes, so that such a call is never mistaken for that
+    /// Moves bytes to the beginning of `buf` and returns their number. The rest of `buf` may be anything, and all of it
+    /// after an error, which loses no byte of the input. Into a buffer with room, 0 is the end of the input. With an
+    /// empty buffer nothing is moved and nothing changes, so that such a call is never mistaken for that
     /// end.
     fn read(&mut self, buf: &mut [u8]) -> Result<usize, Failed>
         ensures call { IsRead (seen self.old) (seen self.new) result buf.new }
