@@ -1,5 +1,6 @@
-//! What holds of blocks in turn: each function's contract is one law, and its body is empty. Nothing calls them. The
-//! last is generic, since it speaks of what a kind of source was seen to give.
+//! What holds of blocks in turn: each function's contract is one law, and its body is empty. Nothing calls them. They
+//! are public because what they ensure is promised of the crate. The last is generic, since it speaks of what a kind of
+//! source was seen to give.
 //!
 //! `units_of` is what is written by definition: block 0 of each capture, then block 1 of each, and so on for a number
 //! of blocks. `interleave_loop` is proved to write that of what came. A task is how many captures there are, how many

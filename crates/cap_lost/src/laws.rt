@@ -1,5 +1,5 @@
 //! What holds of what every report says: each function's contract is one law, and its body is empty. Nothing calls
-//! them.
+//! them. They are public because what they ensure is promised of the crate.
 //!
 //! `losses_of` is what a text says by definition, of a layout and zones: the extents of lost sectors and how many
 //! sectors were written, or the first line that breaks a rule. `read_report` is proved to give it. The laws are here

@@ -1,4 +1,5 @@
-//! What holds of every capture: each function's contract is one law, and its body is empty. Nothing calls them.
+//! What holds of every capture: each function's contract is one law, and its body is empty. Nothing calls them. They
+//! are public because what they ensure is promised of the crate.
 ghost use Rattle.std.specs.Prelude.{◌≡◌, ◌<◌, ℕ, List};
 ghost use Rattle.cap_map.specs.declared.span.Span.{Span as MapSpan};
 ghost use Rattle.cap_mark.specs.Capture.{MarksWhole};

@@ -1,7 +1,7 @@
 //! What holds of every sector. Each function's contract is a law of the definitions; the bodies are empty. Nobody has
-//! to call one: the crate is proved only if each law is.
-//! The sector of an address and user data has 2,352 bytes. It begins with sync, address, mode 1, user data, EDC and
-//! eight zeros, 2,076 bytes, and its 86 P words and 52 Q words are codewords. Nothing is wrong with a sector at an
+//! to call one: the crate is proved only if each law is. They are public because what they ensure is promised of the
+//! crate. The sector of an address and user data has 2,352 bytes. It begins with sync, address, mode 1, user data, EDC
+//! and eight zeros, 2,076 bytes, and its 86 P words and 52 Q words are codewords. Nothing is wrong with a sector at an
 //! address where all words are codewords, its mode is 1, it has this address, and its EDC is right; the sync isn't
 //! checked. A cause is the first of these that fails.
 ghost use Rattle.cd_sector.specs.Laws.{CorrectableDamageIsRepaired, FaultlessHasNoCause, SectorIsOnlyOne, SectorsAreFaultless, SomeSector};

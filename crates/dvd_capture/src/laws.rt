@@ -1,9 +1,10 @@
 //! What holds of every captured block: each function's contract is one law, and its body is empty. Nobody has to call
-//! one: the crate is proved only if each law is. `using` names the lemma that a law is.
-//! In the first pass each received row is answered by the codeword near it, or by none, where it is a failed row. A
-//! block has two-pass agreement with 208 received rows and their marks where each of its rows and columns is a
-//! codeword, and each column costs at most 16: two for each row answer that differs there, and one for each failed row.
-//! These are notions of `coding`, which has no proofs; their laws are here, since the stages of `Work` rest on them.
+//! one: the crate is proved only if each law is. They are public because what they ensure is promised of the crate.
+//! `using` names the lemma that a law is. In the first pass each received row is answered by the codeword near it, or
+//! by none, where it is a failed row. A block has two-pass agreement with 208 received rows and their marks where each
+//! of its rows and columns is a codeword, and each column costs at most 16: two for each row answer that differs there,
+//! and one for each failed row. These are notions of `coding`, which has no proofs; their laws are here, since the
+//! stages of `Work` rest on them.
 ghost use Rattle.dvd_capture.specs.Laws.{HeadersDiffer, MarksHaveASpelling, MarksHaveOneSpelling, RecordingIsCaptured, TwoPassIsOnlyOne, WithinIsTwoPass};
 
 /// At most one block has two-pass agreement with received rows and marks. So what is found at stage Fixed is the block

@@ -1,5 +1,6 @@
 //! What holds of every physical format. Each function's contract is a law of the definitions; the bodies are empty.
-//! Nobody has to call one: the crate is proved only if each law is. `using` names the lemmas of a proof.
+//! Nobody has to call one: the crate is proved only if each law is. They are public because what they ensure is
+//! promised of the crate. `using` names the lemmas of a proof.
 ghost use Rattle.dvd_control.specs.Laws.{FormatNamesTheLastSector, WrittenFormatsAreValid, WrittenFormatsAreReadBack};
 
 /// A sector that `to_bytes` writes, of any physical format, breaks no rule: `from_bytes` doesn't refuse it. The rules,

@@ -1,5 +1,6 @@
 //! What holds of every data frame. Each function's contract is a law of the definitions; the bodies are empty. Nobody
-//! has to call one: the crate is proved only if each law is.
+//! has to call one: the crate is proved only if each law is. They are public because what they ensure is promised of
+//! the crate.
 ghost use Rattle.std.specs.Prelude.{◌≡◌, ℕ, ◌*◌, ◌<◌, ◌^◌, List, ◌++◌, length, replicate, None};
 ghost use Rattle.coding.specs.Bits.{bits_of};
 ghost use Rattle.dvd_frame.specs.Edc.{edc_of, remainder};

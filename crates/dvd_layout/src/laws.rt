@@ -1,9 +1,9 @@
 //! What holds of every valid layout. Each function's contract is a law of the definitions; the bodies are empty. Nobody
-//! has to call one: the crate is proved only if each law is.
-//! A layout has a shape, the image sectors of each layer, the blocks of the Initial Zone, and those of each zone after
-//! data, its tail. Its plan is the list of its blocks in the order of a stream, either of all zones or of the Data
-//! Zones alone; an entry has the first of a block's sixteen sector numbers, its area, its layer and its content. A
-//! block of image has the sixteen image sectors from one on, or what is left of the image.
+//! has to call one: the crate is proved only if each law is. They are public because what they ensure is promised of
+//! the crate. A layout has a shape, the image sectors of each layer, the blocks of the Initial Zone, and those of each
+//! zone after data, its tail. Its plan is the list of its blocks in the order of a stream, either of all zones or of
+//! the Data Zones alone; an entry has the first of a block's sixteen sector numbers, its area, its layer and its
+//! content. A block of image has the sixteen image sectors from one on, or what is left of the image.
 ghost use Rattle.std.specs.Prelude.{ℕ};
 ghost use Rattle.dvd_layout.specs.Laws.{ControlDataIsInTheLeadIn, ImageIsWhole, ImageIsInOrder, LayoutIsByLengths, LayoutsBreakNoRule, PlacesDiffer, PlanBeginsWithTheLeadIn, PlanFollowsPlaces, PlanNumbersHave24Bits};
 
