@@ -63,7 +63,9 @@ pub trait UnitCommand<S: Source, K: Sink, E: Sink> {
         ensures last { result ≡ Ok UnitKind.Last → left self.new LoopEnd.Done };
 
     /// Writes and reports what comes after the last unit, before one more byte is requested. It isn't called after a
-    /// unit that ended the loop. The last clause is of any end, since the loop's is known only after that byte.
+    /// unit that ended the loop. What it does is promised only of a command that is ready after all units, which the
+    /// clauses ask for themselves: in any other state the call has to be safe, and that is all. So the loop needn't
+    /// show it before the call. The last clause is of any end, since the loop's is known only after that byte.
     fn close(&self, out: &mut K, report: &mut E) -> Result<(), LoopEnd>
         ensures closes { (source : Seen) → ClosesUnits (units (key self.now)) (ready self.now)
             (streams source (K.seen out.old) (E.seen report.old)) (streams source (K.seen out.new) (E.seen report.new)) result }

@@ -28,8 +28,9 @@ pub(crate) fn take_row(
     }
 }
 
-// Joins each place, or nothing where the byte of its mark isn't 0. The marks are spread over 184 bytes, eight for each
-// of the 23 mark bytes: the last two are spare, and no group of 32 reads them.
+// Joins each place with its byte, or with nothing where the byte of its mark isn't 0. A place has a value, and a code
+// that says what is known: no byte yet, that value, or that two bytes differed, which stays so. The marks are spread
+// over 184 bytes, eight for each of the 23 mark bytes: the last two are spare, and no group of 32 reads them.
 #[inline(always)]
 fn join_row(values: &mut [u8; 182], codes: &mut [u8; 182], bytes: &[u8; 182], marks: &[u8; SPREAD])
     ensures { (k : ℕ) → k < 182 → at_place values.new codes.new k ≡ joined_at values.old codes.old bytes.now marks.now k }
