@@ -2,9 +2,10 @@
 //! empty. Nobody calls them. They are public because what they ensure is promised of the crate.
 //!
 //! A law is about any received rows and their marks, and about no call. A round replaces each row, and then each
-//! column, by the codeword near it, where there is one, and clears its marks. It finishes where all columns are
-//! answered so and all rows are then codewords. The block given back is what the first of at most four rounds leaves
-//! that finishes; where none does, no block is.
+//! column, by the codeword near it, where there is one, and clears its marks. A row without one is an erasure in every
+//! column of the round, as in two passes; a column that has no codeword near it so is tried with its own marks. It
+//! finishes where all columns are answered so and all rows are then codewords. The block given back is what the first
+//! of at most four rounds leaves that finishes; where none does, no block is.
 ghost use Rattle.dvd_deep.specs.Laws.{TrueBytesGiveTheBlock, TwoPassIsRoundOne, WhatIsFoundIsProduct};
 
 /// Where two passes determine a block, round 1 finishes with it. They do where a product codeword differs from the

@@ -13,7 +13,8 @@ use dvd_decoding::Cause;
 use dvd_layout::BlockPlan;
 
 /// Reads a captured block as an entry of a plan: two passes, then the checks of its frames. The sixteen sectors are
-/// then the Main Data of the block, or zeros after a cause. Received bytes and marks stay.
+/// then the Main Data of the block, or zeros after a cause. Received bytes and marks stay. The answer says how many
+/// bytes of the block differ from those received, and how many rows failed.
 /// Where two passes refuse the block the stage is Refused. After a cause of its frames it is Fixed, since the block was
 /// found. `tactic` lets the prover unfold the cause of a block: that of two passes, or else that of its frames.
 #[tactic(auto, unfolding(dvd_decoding::specs::Reading::block_cause))]
@@ -26,7 +27,8 @@ pub fn read_block(work: &mut Work, plan: &BlockPlan) -> Result<Fixed, Cause>
     let are_kept = answer_block(work);
     match end_passes(work, are_kept) {
         Ok(fixed) => {
-            // It sets the sectors to zeros itself where a frame has a cause.
+            // How many bytes differ from those received counts too: where none does, the frames are read from what was
+            // received. It sets the sectors to zeros itself where a frame has a cause.
             sectors_of_block(work, plan, FrameSource::of(fixed.bytes, are_kept))?;
             Ok(fixed)
         }
