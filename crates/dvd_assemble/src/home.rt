@@ -19,7 +19,8 @@ use rs_code::Pi;
 use rs_decode::decode;
 
 /// The block of the data zone and the recording frame of it that the first row of a captured frame names, if it names
-/// one. At most 1,024 blocks are allowed, so that the number of one has room in 16 bits.
+/// one. `assemble` allows disks of at most 1,024 blocks, since it keeps all of them in memory; any bound below
+/// 65,536 would do here, where it shows that the number of a block has room in 16 bits.
 pub(crate) fn home_of(layout: &Layout, frame: &FrameWork) -> Option<(u16, u8)>
     requires { length (plan_of layout.now DataOnly) ≤ 1024 }
     ensures home { result ≡ option_map block_and_frame (home layout.now (captured frame.now)) }
@@ -110,8 +111,9 @@ fn blocks_before(layout: &Layout, layer: u8) -> u64
 }
 
 // Whether frame `f` of block `k` has the place of this ID. The sector number alone isn't enough: area and layer have to
-// be right too. b29, the reflectivity bit, isn't compared, so that an ID is found whatever it is. `dim` is handed on
-// all the same: the definition lists the IDs as they are written.
+// be right too. b29, the reflectivity bit, isn't compared, as in no check of a frame: it says how the disk reflects,
+// not where the frame is, so a frame with another b29 is at home all the same. `dim` is handed on all the same: the
+// definition lists the IDs as they are written.
 fn has_frame(layout: &Layout, k: u64, f: usize, id: Id) -> bool
     requires block { k < length (plan_of layout.now DataOnly) }
     requires frame { f < 16 }

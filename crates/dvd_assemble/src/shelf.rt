@@ -30,7 +30,8 @@ impl Shelf {
     ghost use Rattle.dvd_assemble.specs.Shelves.{tables_of};
 
     /// So many blocks of which no place is seen. All memory is taken here. `NoMemory` may come at any time, and nothing
-    /// is taken then. There is a block at least, as a layout has no layer without a sector.
+    /// is taken then. There is a block at least, as a layout has no layer without a sector: a
+    /// shelf of none would be a call by mistake.
     pub fn new(alloc: Global, blocks: u16) -> Result<Shelf, NoMemory>
         requires some { 0 < blocks }
         requires few { blocks ≤ 1024 }

@@ -50,8 +50,11 @@ pub trait UnitCommand<S: Source, K: Sink, E: Sink> {
             (streams source (K.seen out.old) (E.seen report.old)) (streams source (K.seen out.new) (E.seen report.new)) }
         ensures left { IfErr result (left self.now) };
 
-    /// Reads unit `k`, does its steps in order, and answers the kind of the unit. It alone may change the command,
-    /// whose buffers are used again, and it alone is handed the source.
+    /// Reads unit `k`, does its steps in order, each of which writes bytes or reports a line, and answers the kind of
+    /// the unit. Where the input ends within the unit, or a call of a stream fails, the answer is the end of the loop
+    /// that says so, and nothing is done after it: of the unit's steps only those before. So says `Processes`, of a
+    /// command that is ready for the unit (`IsReadyFor`: the units before have been done), with the causes of its
+    /// faults. It alone may change the command, whose buffers are used again, and it alone is handed the source.
     fn process(&mut self, k: u32, src: &mut S, out: &mut K, report: &mut E) -> Processed
         requires unit { k < (units (key self.old)).count }
         requires ready { IsReadyFor k (ready self.old) }
@@ -63,9 +66,10 @@ pub trait UnitCommand<S: Source, K: Sink, E: Sink> {
         ensures last { result ≡ Ok UnitKind.Last → left self.new LoopEnd.Done };
 
     /// Writes and reports what comes after the last unit, before one more byte is requested. It isn't called after a
-    /// unit that ended the loop. What it does is promised only of a command that is ready after all units, which the
-    /// clauses ask for themselves: in any other state the call has to be safe, and that is all. So the loop needn't
-    /// show it before the call. The last clause is of any end, since the loop's is known only after that byte.
+    /// unit that ended the loop. What it writes is promised only of a command that is ready after all units, which
+    /// `closes` and `left` ask for themselves, so that the loop needn't show it before the call. In any other state the
+    /// call has to be safe and to name the causes of its faults: `causes` is of any state. The last clause is of any
+    /// end, since the loop's is known only after that byte.
     fn close(&self, out: &mut K, report: &mut E) -> Result<(), LoopEnd>
         ensures closes { (source : Seen) → ClosesUnits (units (key self.now)) (ready self.now)
             (streams source (K.seen out.old) (E.seen report.old)) (streams source (K.seen out.new) (E.seen report.new)) result }

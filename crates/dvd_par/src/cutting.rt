@@ -10,7 +10,7 @@ use std::thread::{Threads, for_each_chunk_mut};
 
 /// How many of `total` rows or columns a piece has: the least number with which so many workers do them all. It is
 /// rounded up, so that the last piece may be shorter and a worker may have none. It isn't rounded to the 32 of a
-/// vector: 208 rows would then be seven pieces, whatever the number of workers. Tests ask it too.
+/// vector: 208 rows would then be seven pieces at most, and workers beyond seven would have none. Tests ask it too.
 pub fn piece_size(total: usize, workers: u8) -> usize
     requires workers { 1 ≤ workers }
     requires some { 1 ≤ total }

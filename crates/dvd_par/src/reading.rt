@@ -35,7 +35,9 @@ pub fn read_block_par<R: Threads + Sync, G: Gate>(
     let are_kept = answer_block(rt, workers, gate, work);
     match end_passes(work, are_kept) {
         Ok(fixed) => {
-            // It sets the sectors to zeros itself where a frame has a cause. It isn't shared out.
+            // Where no byte differs from those received, the frames are read from these; where the columns keep the
+            // rows, from the rows' answers; else from the columns. Each has the same bytes, and the first two have
+            // them in order. It sets the sectors to zeros itself where a frame has a cause. It isn't shared out.
             sectors_of_block(work, plan, FrameSource::of(fixed.bytes, are_kept))?;
             Ok(fixed)
         }
