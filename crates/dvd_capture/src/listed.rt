@@ -1,6 +1,9 @@
 //! Blocks in the listed form: the bytes of the plain form, and after them fields of two bytes, the number of runs of
 //! marked places and each run's start and length. All these are a unit. A run is marked places one after the other in
-//! the order of recording. In contracts `before` is the bytes of the rows, which come before the fields.
+//! the order of recording. In contracts `before` is the bytes of the rows, which come before the fields. The clauses
+//! named `cause` and `counts` are of the stream: where the answer is a fault, one call failed and was the last
+//! (`HasCause`); where the input ended too early, one read met its end and was the last; else all calls went on, also
+//! before a unit that breaks a rule (`HasFetchCause`, `FetchCounts`). So nothing is tried again.
 ghost use Rattle.std.specs.Prelude.{◌≡◌, ℕ, ◌+◌, ◌<◌, ◌≤◌, List, length, IfOk, IfErr, OnOk, OnErr};
 ghost use Rattle.coding.specs.Product.{line};
 ghost use Rattle.dvd_ports.specs.Causes.{HasCause};

@@ -18,7 +18,8 @@ pub const SPREAD: usize = 184;
 const BITS: [u8; 8] = [0x80, 0x40, 0x20, 0x10, 0x08, 0x04, 0x02, 0x01];
 
 /// A mark for each of the 182 places of a row, a bit each: 23 bytes, of which the last two bits are spare. Two are
-/// equal where these bits are too. The bits of a recorded row are kept as they came, and a spare one marks no place.
+/// equal where these bits are too. The bits of a recorded row are kept as they came, and a spare one marks no place:
+/// clearing it would do too, as no clause speaks of it.
 #[derive(Clone, Copy, Debug, PartialEq, Eq, Drop)]
 pub struct RowMarks {
     bits: [u8; 23],

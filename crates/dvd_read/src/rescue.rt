@@ -138,6 +138,8 @@ fn read_candidate(
     ensures main { result ≡ true → rescued (map answer_word held.now.answers.now) plan.now f ≡ Some main.new }
     ensures saved { result ≡ is_some (rescued (map answer_word held.now.answers.now) plan.now f) }
 {
+    // The rule says which bytes of the frame are scrambled: in the Reference Code Zone not all are. All frames have the
+    // same checks.
     let rule = rule_of(plan.content, f);
     // An ID is compared without b29, which a disk with two layers sets, so `false` will do.
     copy_candidate(held, f, frame)
