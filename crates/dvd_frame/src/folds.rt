@@ -3,7 +3,8 @@
 //! The square of a sum of polynomials over the two bits is the sum of their squares. So with x^32 + x^31 + x^4 + 1,
 //! x^(32 n) + x^(31 n) + x^(4 n) + 1 is a multiple of the divisor for each power of two n, and a chunk of n bits may be
 //! added to those 1, 28 and 32 chunks after it and then left out. In contracts `divided_from 0` is what division
-//! leaves, and `plus_prefix` adds a list to the front of another.
+//! leaves, and `plus_prefix` adds a list to the front of another. `.entry` is what a vector that is handed over had at
+//! the start of the call.
 ghost use Rattle.std.specs.Prelude.{◌≡◌, ℕ, ◌+◌, ◌*◌, ◌^◌, ◌≤◌, ◌++◌, length, drop, replicate};
 ghost use Rattle.coding.specs.BitDivision.{plus_prefix};
 ghost use Rattle.dvd_frame.specs.Inner.Registers.{divided_from};

@@ -70,12 +70,14 @@ impl Patches {
         ensures same { result ≡ false → word.new ≡ word.old }
     {
         let count = erasures.points.len();
-        // Only with an inverse does `Erasures` ensure that its list has the marked places. The test of the count is for
-        // the prover, which doesn't know that more than sixteen have no inverse.
+        // Only with an inverse does `Erasures` ensure that its list has the marked places. The inverse itself says that
+        // there are sixteen at most, but only where it is taken out of its `Option`, as `new` does; here nothing is
+        // wanted of it, so the count is tested for the prover.
         if self.wrong[n] != 0 || count > 16 || erasures.inverse.is_none() {
             return false;
         }
         self.add_to(&erasures.places[..count], n, word);
+        // It does nothing at run time: the clause `filled` speaks of bytes, which the checker doesn't know of an array.
         prove_bytes(word);
         true
     }
