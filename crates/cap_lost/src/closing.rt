@@ -2,7 +2,8 @@
 //! `damaged: N blocks` or `long` of a whole image, `short: block K, B bytes` or `bad marks: block K, byte A` of one
 //! that stopped, and `read fault` or `write fault`. Lines of runs that wrote no image, as `usage`, close no such
 //! report. `reader` calls `closing_said`. A form with numbers is a function by itself, since `?` leaves it where a part
-//! is missing.
+//! is missing. `NamesSectors` asks of a damage line that its extent isn't empty, and nothing of a closing line: the
+//! clause is here since `reader` hands what either says on to the draft.
 ghost use Rattle.std.specs.Prelude.{◌≡◌, ◌<◌, length, take, IfOk, IfSome, IfNone};
 ghost use Rattle.dvd_layout.specs.Place.{image_before, image_sectors};
 ghost use Rattle.dvd_layout.specs.Plan.{plan_of};

@@ -4,8 +4,10 @@
 //! `goes_on` in the clauses is the result of a report that has these bytes after those that came. A fault is that of
 //! each report that begins so. `IsReaderSound` says that the number of a line is at most `next` of the draft and two
 //! more, so that it fits 64 bits, and that the line that has begun has at most 128 bytes, none of them a line feed.
-//! `HasReadOn` counts a line as 129 bytes, so that each byte is progress and `read_report` ends. `report` reads by it.
-//! At `NoMemory` nothing is claimed of the report.
+//! `IsCounted` says of the draft that it has counted at most `next` damage lines, each of which names a sector, and
+//! that `next` has 32 bits; `closing_count` is 1 once the closing line came. The draft may take on what a line says
+//! only before that: so `read_line` tests it first. `HasReadOn` counts a line as 129 bytes, so that each byte is
+//! progress and `read_report` ends. `report` reads by it. At `NoMemory` nothing is claimed of the report.
 ghost use Rattle.std.specs.Prelude.{◌≡◌, ◌+◌, ◌<◌, ◌≤◌, ◌++◌, [], ◌∷◌, ℕ, List, Ok, codes, length, IfOk, OnOk, IfErr};
 ghost use Rattle.cap_lost.specs.Inner.{HasReadOn, IsCounted, IsReaderSound, IsStopOf, NamesSectors, StopsAs, closing_count, goes_on, sayings_of};
 ghost use Rattle.cap_lost.specs.Report.{IsFaultOf, line_read, losses_of, word_said};
