@@ -44,7 +44,9 @@ fn command_named(word: &str) -> Option<Command>
     }
 }
 
-// Each option by its form, by the module of the command.
+// Each option by its form, by the module of the command. `AreValid` is what the runs of the commands require of their
+// settings: of `interleave` the number of files, and which forms may be filled; of `draw` the width; of the others
+// nothing.
 fn settings<'a>(command: Command, matches: &ArgMatches<'a>) -> Option<Settings<'a>>
     ensures value { option_map asked_by result ≡ settings_of command (rows_of (found_of matches.now)) }
     ensures valid { IfSome result AreValid }

@@ -30,8 +30,9 @@ pub fn workers_change_nothing()
 {}
 
 /// Every input of bytes has an outcome that no fault ended. The settings have six bytes of CPR_MAI and break no rule of
-/// layouts; `cdmake` has an address for each sector, and no form but the plain one. All settings that are read of
-/// arguments, and that a run begins with, are such.
+/// layouts; `cdmake` has an address for each sector, and no form but the plain one: the header of a listed capture
+/// could state more sectors than there are addresses. All settings that are read of arguments, and that a run begins
+/// with, are such.
 pub fn something_is_done()
     ensures { SomethingIsDone }
 {}

@@ -121,7 +121,8 @@ pub(crate) fn report_found(fixed: Fixed) -> Report
 
 // Reports the number of a cause. Answers its status. Two passes have the first three causes; the others are those of
 // data frames, for `dvdecc_read_block`. One call for both, so that a cause has one status. Which ID was found isn't
-// reported: there is one number, that of the frame. The other two are set to 0, since no block was found to count in.
+// reported: there is one number, that of the frame. The other two are 0: a `Cause` has no counts, and
+// include/dvdecc.h promises them after DVDECC_OK alone.
 pub(crate) fn report_cause(cause: Cause, report: &mut Report) -> u32
     ensures status { result ≡ cause_status cause }
     ensures report { report.new ≡ record { corrected = 0; failed_rows = 0; number = cause_number cause } }
