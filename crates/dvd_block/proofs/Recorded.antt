@@ -1,9 +1,11 @@
 -- Rows in the order of recording, one after the other.
-use Rattle.std.proofs.Common.{◌≡◌, ℕ, zero, suc, ◌+◌, List, [], ◌++◌, Result, Ok, Err, OnErr, refl, sym, ◌∙◌, ap, append_assoc, arith}
+use Rattle.std.proofs.Common.{◌≡◌, ℕ, zero, suc, ◌+◌, ◌≤◌, List, [], ◌++◌, length, take, Result, Ok, Err, OnErr, refl, sym, ◌∙◌, ap, append_assoc, arith}
 use Rattle.std.proofs.lemmas.List.{append-nil}
+use Rattle.std.proofs.lemmas.Slice.{take-put_mid}
 use Rattle.coding.specs.Product.{line}
 use Rattle.std.specs.List.{flat_map, range_with_len}
 use Rattle.coding.specs.Recording.{recorded_rows, recording, row_at}
+use Rattle.dvd_block.proofs.RowParts.{part_written}
 
 -- the bytes of so many recorded rows from recorded row m on
 unfoldable pub recorded : ℕ → ℕ → List (List ℕ) → List ℕ
@@ -48,6 +50,16 @@ recorded-more m n block =
     recorded-add m n 1 block
     ∙ ap (λ (l : List ℕ). recorded m n block ++ l)
     (recorded-first (m + n) 0 block ∙ ap (λ (l : List ℕ). line block (row_at (m + n)) ++ l) (recorded-none (m + n + 1) block) ∙ append-nil (line block (row_at (m + n))))
+
+-- a recorded row that is put after those before it: `text` has so many of them as yet, each of the same width
+pub recorded-put : (at width next m : ℕ) (text part : List ℕ) (rows : List (List ℕ)) → at ≤ length text → next ≡ at + length part → part ≡ line rows (row_at m)
+    → take at text ≡ recorded 0 m rows → take next (part_written at width text part) ≡ recorded 0 (m + 1) rows
+recorded-put at width next m text part rows inside follows is before =
+    let from : 0 + m ≡ m = omega arith in
+    take-put_mid at width text part next follows inside
+    ∙ ap (λ (l : List ℕ). l ++ part) before
+    ∙ ap (λ (l : List ℕ). recorded 0 m rows ++ l) (is ∙ ap (λ (k : ℕ). line rows (row_at k)) (sym from))
+    ∙ sym (recorded-more 0 m rows)
 
 -- a fact about a failed call that doesn't depend on its error
 pub on_err : {T E : Type 0} (r : Result T E) (P : Type 0) → P → OnErr r P

@@ -1,5 +1,5 @@
 -- The proof of `Cells::clear` in src/buffers.rt.
-use Rattle.std.proofs.Common.{◌≡◌, ◌∙◌, ap, refl, replicate}
+use Rattle.std.proofs.Common.{◌∙◌, ap, refl, replicate}
 use Rattle.dvd_block.proofs.Taken.{same_array}
 use Rattle.dvd_block.proofs.buffers.Cells.clear.Goals as goal
 
