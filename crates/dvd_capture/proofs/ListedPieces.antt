@@ -1,5 +1,5 @@
 -- The runs of a listed unit while their fields come in pieces.
-use Rattle.std.proofs.Common.{◌≡◌, ◌⊎◌, ◌∙◌, ℕ, ◌+◌, ◌-◌, ◌*◌, ◌<◌, ◌≤◌, ◌&&◌, ◌||◌, nat_le, nat_lt, Bool, List, [], ◌++◌, length, take, drop, get_or, slice_index, Option, None, Some, Result, Ok, Err, inl, inr, refl, sym, ap, subst, arith, append_assoc, append-nil, length-append, length-take}
+use Rattle.std.proofs.Common.{◌≡◌, ◌⊎◌, ◌∙◌, ℕ, ◌+◌, ◌*◌, ◌<◌, ◌≤◌, ◌&&◌, ◌||◌, nat_le, nat_lt, Bool, List, [], ◌++◌, length, take, drop, get_or, slice_index, Option, None, Some, Result, Ok, Err, inl, inr, refl, sym, ap, subst, arith, append_assoc, append-nil, length-append, length-take}
 use Rattle.std.proofs.Math.Seq.{take-add}
 use Rattle.std.proofs.lemmas.Bool.Decides.{leb_tells}
 use Rattle.std.proofs.lemmas.List.{get_or-drop, get_or-take, length-drop, take-append-drop, take-append-le, take_all}
@@ -219,6 +219,24 @@ module _ (rows : List ℕ) (count : ℕ) (fields : List ℕ) (mark : ℕ → Boo
           (subst (λ l. HasRuns l count count taken.end mark) (append_assoc rows t.number fields) (fields-all (rows ++ t.number) fields count mark taken t.has size));
     };
   }
+
+-- What is known of these fields before their runs are taken: they came, they are no more than those of so many runs,
+-- and the runs that were taken are their first.
+pub record AreFieldsMore (rows : List ℕ) (count : ℕ) (fields : List ℕ) (mark : ℕ → Bool) (taken : Taken) (old new : Option (List ℕ)) : Type 0 where
+  pub number : List ℕ
+  pub came : Consumes old new (number ++ fields)
+  pub few : length fields ≤ 4 * count
+  pub first : HasRuns ((rows ++ number) ++ take (4 * taken.runs) fields) count taken.runs taken.end mark
+
+-- the fields with more that came
+pub fields-after : (rows : List ℕ) (count : ℕ) (fields : List ℕ) (mark : ℕ → Bool) (taken : Taken) (old mid : Option (List ℕ)) → TakesFields rows count fields mark taken old mid
+    → (new : Option (List ℕ)) (all own : List ℕ) → all ≡ fields ++ own → length fields + length own ≤ 4 * count → Consumes mid new own → AreFieldsMore rows count all mark taken old new
+fields-after rows count fields mark taken old mid t new all own is within more = record {
+  number = t.number;
+  came = subst (λ l. Consumes old new (t.number ++ l)) (sym is) (fields-come rows count fields mark taken old mid t new own more);
+  few = length-grow all fields own (4 * count) is within;
+  first = fields-grow (rows ++ t.number) fields count mark taken t.has all own is;
+}
 
 -- a field that breaks a rule
 pub stopped-at-field : (rows number fields : List ℕ) (old new : Option (List ℕ)) → Consumes old new (number ++ fields) → (answer : FetchAnswer) → BreaksIn ((rows ++ number) ++ fields) answer

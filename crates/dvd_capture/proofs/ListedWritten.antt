@@ -17,11 +17,14 @@ use Rattle.dvd_capture.specs.Captured.{IsUnitOf}
 use Rattle.dvd_capture.specs.Laws.{MarksHaveASpelling}
 use Rattle.dvd_capture.specs.Listed.{field_at, mark_of, marked_by, run_count}
 use Rattle.dvd_capture.specs.Listing.{AppendsPart, AppendsUnit}
+use Rattle.dvd_capture.specs.Parts.{marks_rows}
+use Rattle.dvd_capture.specs.declared.parts.Marks.{Marks}
 use Rattle.dvd_capture.specs.Inner.Listing.{AppendsAll, AppendsSome, AreFields, AreMarked, HasRuns, IsFound, starts_below}
 use Rattle.dvd_capture.proofs.ListedUnit.{marks-listed, rows-listed}
 use Rattle.dvd_capture.proofs.RecordedRows.{length-recording, recording_captured}
 use Rattle.dvd_capture.proofs.ListedFields.{field_at-after, number-unbroken, one-run-more}
 use Rattle.dvd_capture.proofs.ListedTaken.{field-read, first-field, second-field}
+use Rattle.dvd_capture.proofs.WorkParts.{marks-height, marks-width}
 use Rattle.dvd_capture.proofs.RunStarts.{IsNextRun, counted-next, none_left, run-apart, same_starts-before, some-length, starts-few, starts-none}
 
 -- a written field holds its value
@@ -318,11 +321,21 @@ pub on_err-map : {T E : Type 0} (r : Result T E) (P Q : Type 0) → (P → Q) �
 on_err-map (Ok v) P Q f p = p
 on_err-map (Err e) P Q f p = f p
 
+-- the list of the runs was written, after the bytes of rows
+pub list-written : (before : List ℕ) (mark : ℕ → Bool) (own bytes : List ℕ) (old new : Option (List ℕ)) → AreFields before mark own → bytes ≡ own → Appends old new bytes
+    → AppendsAll before mark old new
+list-written before mark own bytes old new are is grows = record { own = own; are = are; grows = subst (Appends old new) is grows }
+
+-- or a front of it
+pub list-begun : (before : List ℕ) (mark : ℕ → Bool) (own bytes : List ℕ) (old new : Option (List ℕ)) → AreFields before mark own → bytes ≡ own → AppendsPrefix old new bytes
+    → AppendsSome before mark old new
+list-begun before mark own bytes old new are is part = record { own = own; are = are; part = subst (AppendsPrefix old new) is part }
+
 -- THE BYTES OF THE ROWS, and the whole unit.
-module _ (rows : List (List ℕ)) (height : length rows ≡ 208) (widths : (i : ℕ) → i < 208 → length (line rows i) ≡ 182) where
+module _ (rows : List (List ℕ)) (height : length rows ≡ 208) (widths : (i : ℕ) → i < length rows → length (line rows i) ≡ 182) where
   -- each of the rows has 182 bytes
   wide : All (λ row. length row ≡ 182) rows
-  wide = All-from_get_or (λ row. length row ≡ 182) rows [] (λ i within. widths i (omega (arith, within, height)))
+  wide = All-from_get_or (λ row. length row ≡ 182) rows [] widths
 
   -- recorded they are 37,856 bytes
   pub recording_size : length (recording rows) ≡ 37_856
@@ -344,37 +357,46 @@ module _ (rows : List (List ℕ)) (height : length rows ≡ 208) (widths : (i : 
           subst (λ n. n < 256) (sym same) (small (offset - 37_856));
     }
 
+  -- the same of the marks of a captured block
+  module _ (marks : Marks) where
+    unit-of-marks : (own : List ℕ) → ((k : ℕ) → slice_index own k < 256) → (count end : ℕ) → HasRuns (recording rows ++ own) count count end (mark_of (marks_rows marks))
+        → IsUnitOf rows (marks_rows marks) (recording rows ++ own)
+    unit-of-marks = unit-of (marks_rows marks) (marks-height marks) (marks-width marks)
+
     -- the rows were written, and all runs
-    pub unit-written : (old mid new : Option (List ℕ)) → Appends old mid (recording rows) → AppendsAll (recording rows) (mark_of marks) mid new → AppendsUnit old new rows marks
+    pub unit-written : (old mid new : Option (List ℕ)) → Appends old mid (recording rows) → AppendsAll (recording rows) (mark_of (marks_rows marks)) mid new
+        → AppendsUnit old new rows (marks_rows marks)
     unit-written old mid new before all = record {
       unit = recording rows ++ all.own;
-      is_unit = unit-of all.own all.are.bytes all.are.count all.are.end all.are.runs;
+      is_unit = unit-of-marks all.own all.are.bytes all.are.count all.are.end all.are.runs;
       grows = Appends-then old mid new (recording rows) all.own before all.grows;
     }
 
     -- or some of them
-    pub runs-begun : (old mid new : Option (List ℕ)) → Appends old mid (recording rows) → AppendsSome (recording rows) (mark_of marks) mid new → AppendsPart old new rows marks
+    pub runs-begun : (old mid new : Option (List ℕ)) → Appends old mid (recording rows) → AppendsSome (recording rows) (mark_of (marks_rows marks)) mid new
+        → AppendsPart old new rows (marks_rows marks)
     runs-begun old mid new before some = record {
       unit = recording rows ++ some.own;
-      is_unit = unit-of some.own some.are.bytes some.are.count some.are.end some.are.runs;
+      is_unit = unit-of-marks some.own some.are.bytes some.are.count some.are.end some.are.runs;
       part = subst (λ l. AppendsPrefix old new (recording rows ++ l)) (append-nil some.own) (prefix-after old mid new (recording rows) some.own [] before some.part);
     }
 
     -- or a front of the rows
-    pub rows-begun : (old new : Option (List ℕ)) → AppendsPrefix old new (recording rows) → AppendsPart old new rows marks
+    pub rows-begun : (old new : Option (List ℕ)) → AppendsPrefix old new (recording rows) → AppendsPart old new rows (marks_rows marks)
     rows-begun old new part =
-        let number = to_be_bytes w16 (starts_below (mark_of marks) 37_856) in
-        let after = rest-exists (starts_below (mark_of marks) 37_856) (recording rows ++ number) (mark_of marks) 0 0 (none-written (recording rows) (mark_of marks) recording_size) (omega arith) in record {
+        let mark = mark_of (marks_rows marks) in
+        let number = to_be_bytes w16 (starts_below mark 37_856) in
+        let after = rest-exists (starts_below mark 37_856) (recording rows ++ number) mark 0 0 (none-written (recording rows) mark recording_size) (omega arith) in record {
           unit = recording rows ++ (number ++ after.rest);
-          is_unit = unit-of (number ++ after.rest) (small-append number after.rest (small-field (starts_below (mark_of marks) 37_856)) after.small) after.count after.end
-              (subst (λ l. HasRuns l after.count after.count after.end (mark_of marks)) (append_assoc (recording rows) number after.rest) after.runs);
+          is_unit = unit-of-marks (number ++ after.rest) (small-append number after.rest (small-field (starts_below mark 37_856)) after.small) after.count after.end
+              (subst (λ l. HasRuns l after.count after.count after.end mark) (append_assoc (recording rows) number after.rest) after.runs);
           part = prefix-after old old new [] (recording rows) (number ++ after.rest) (Appends-none old) part;
         }
 
 -- any rows and marks have a unit
 pub some_spelling : MarksHaveASpelling
 some_spelling rows marks height wide_rows marks_height wide_marks =
-    let widths = λ (i : ℕ) (inside : i < 208). wide_rows i [] (omega arith) in
+    let widths = λ (i : ℕ) (inside : i < length rows). wide_rows i [] inside in
     let marks_widths = λ (i : ℕ) (inside : i < 208). wide_marks i [] (omega arith) in
     let number = to_be_bytes w16 (starts_below (mark_of marks) 37_856) in
     let begun = none-written (recording rows) (mark_of marks) (recording_size rows height widths) in

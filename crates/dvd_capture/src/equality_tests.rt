@@ -60,42 +60,33 @@ fn row_marks_are_alike_in_each_place(rt: HostRuntime) -> Result<(), Fail> {
     Ok(())
 }
 
-static ROW_ANSWERS: [AnswerRow; 3] = [
-    AnswerRow {
-        bytes: [0; 182],
-        fix: None,
-    },
-    AnswerRow {
-        bytes: [1; 182],
-        fix: None,
-    },
-    AnswerRow {
-        bytes: [0; 182],
-        fix: Some(Fix {
-            errors: 0,
-            erased: 0,
-        }),
-    },
-];
+fn row_answer(byte: u8, fix: Option<Fix>) -> AnswerRow {
+    let bytes = [byte; 182];
+    AnswerRow { bytes, fix }
+}
 
-static COLUMN_ANSWERS: [ColumnAnswer; 3] = [
-    ColumnAnswer {
-        bytes: [0; 208],
-        answered: false,
-    },
-    ColumnAnswer {
-        bytes: [1; 208],
-        answered: false,
-    },
-    ColumnAnswer {
-        bytes: [0; 208],
-        answered: true,
-    },
-];
+fn column_answer(byte: u8, answered: bool) -> ColumnAnswer {
+    let bytes = [byte; 208];
+    ColumnAnswer { bytes, answered }
+}
 
 #[test]
 fn answers_are_alike_in_both_fields(rt: HostRuntime) -> Result<(), Fail> {
-    assert!(rt; are_unlike(&ROW_ANSWERS));
-    assert!(rt; are_unlike(&COLUMN_ANSWERS));
+    let fix = Fix {
+        errors: 0,
+        erased: 0,
+    };
+    let rows = [
+        row_answer(0, None),
+        row_answer(1, None),
+        row_answer(0, Some(fix)),
+    ];
+    let columns = [
+        column_answer(0, false),
+        column_answer(1, false),
+        column_answer(0, true),
+    ];
+    assert!(rt; are_unlike(&rows));
+    assert!(rt; are_unlike(&columns));
     Ok(())
 }

@@ -102,31 +102,26 @@ fn a_unit_is_cut_at_each_byte_of_its_list(rt: HostRuntime) -> Result<(), Fail> {
 
 static RUNS: [u16; 11] = [5, 0, 3, 181, 2, 2183, 1, 2366, 2, 37855, 1];
 
-// Row, place and mark of the unit with these runs, by another program.
-type Mark = (usize, usize, bool);
+// A row of the unit with these runs, places of it that are marked, and places that aren't, by another program.
+type MarkedRow = (usize, &'static [usize], &'static [usize]);
 
-static MARKED: [Mark; 13] = [
-    (0, 0, true),
-    (0, 2, true),
-    (0, 3, false),
-    (0, 181, true),
-    (1, 0, true),
-    (1, 1, false),
-    (11, 181, true),
-    (192, 0, false),
-    (192, 181, false),
-    (12, 0, true),
-    (12, 1, true),
-    (12, 2, false),
-    (207, 181, true),
+static MARKED: [MarkedRow; 6] = [
+    (0, &[0, 2, 181], &[3]),
+    (1, &[0], &[1]),
+    (11, &[181], &[]),
+    (192, &[], &[0, 181]),
+    (12, &[0, 1], &[2]),
+    (207, &[181], &[]),
 ];
 
-// A place is marked so.
-fn has(work: &Work, mark: &Mark) -> Result<(), Fail>
+// An error where one of these places of a row has another mark.
+fn have(work: &Work, row: usize, places: &[usize], mark: bool) -> Result<(), Fail>
     requires { HasBlock (stage_of work.now) }
 {
-    if work.marked(mark.0.min(207), mark.1.min(181)) != mark.2 {
-        Err(*mark)?;
+    for place in places {
+        if work.marked(row.min(207), (*place).min(181)) != mark {
+            Err((row, *place))?;
+        }
     }
     Ok(())
 }
@@ -135,8 +130,9 @@ fn has(work: &Work, mark: &Mark) -> Result<(), Fail>
 fn has_runs(work: &Work) -> Result<(), Fail>
     requires { HasBlock (stage_of work.now) }
 {
-    for mark in &MARKED {
-        has(work, mark)?;
+    for (row, marked, others) in &MARKED {
+        have(work, *row, marked, true)?;
+        have(work, *row, others, false)?;
     }
     if work.received(0, 181) != 243 || work.received(207, 181) != 232 {
         Err("other bytes")?;

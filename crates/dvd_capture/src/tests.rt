@@ -16,28 +16,25 @@ use std::test::Fail;
 // Row, place, byte and mark.
 type Place = (usize, usize, u8, bool);
 
-// Places of the first block of `stream` at 205 bytes a recorded row, computed by another program.
-static MARKED: [Place; 10] = [
-    (0, 0, 0, true),
-    (0, 181, 243, true),
-    (11, 7, 229, false),
-    (12, 8, 36, true),
-    (13, 100, 68, false),
-    (191, 3, 157, false),
-    (192, 0, 80, false),
-    (192, 181, 67, true),
-    (207, 180, 16, true),
-    (207, 181, 23, false),
-];
-
-// Places of the first block of `stream` at 182 bytes a recorded row.
-static PLAIN: [Place; 6] = [
-    (0, 181, 243, false),
-    (12, 8, 247, false),
-    (13, 100, 118, false),
-    (191, 3, 15, false),
-    (192, 0, 196, false),
-    (207, 181, 232, false),
+// Places of the first block of `stream` in each form: its recorded rows have 205 bytes in the marked one and 182 in the
+// plain one. They were computed by another program.
+static FETCHED: [(Form, Place); 16] = [
+    (Form::Marked, (0, 0, 0, true)),
+    (Form::Marked, (0, 181, 243, true)),
+    (Form::Marked, (11, 7, 229, false)),
+    (Form::Marked, (12, 8, 36, true)),
+    (Form::Marked, (13, 100, 68, false)),
+    (Form::Marked, (191, 3, 157, false)),
+    (Form::Marked, (192, 0, 80, false)),
+    (Form::Marked, (192, 181, 67, true)),
+    (Form::Marked, (207, 180, 16, true)),
+    (Form::Marked, (207, 181, 23, false)),
+    (Form::Plain, (0, 181, 243, false)),
+    (Form::Plain, (12, 8, 247, false)),
+    (Form::Plain, (13, 100, 118, false)),
+    (Form::Plain, (191, 3, 15, false)),
+    (Form::Plain, (192, 0, 196, false)),
+    (Form::Plain, (207, 181, 232, false)),
 ];
 
 // So many bytes: byte k is 7k + k/size, modulo 256.
@@ -98,11 +95,23 @@ fn has_all(work: &Work, places: &[Place]) -> Result<(), Fail>
     Ok(())
 }
 
+// The same of the places of a block that was fetched in this form.
+fn has_fetched(work: &Work, form: Form) -> Result<(), Fail>
+    requires { HasBlock (stage_of work.now) }
+{
+    for (of, place) in &FETCHED {
+        if *of == form {
+            has(work, place)?;
+        }
+    }
+    Ok(())
+}
+
 // A stream of one byte more gives a block, and then that byte.
 fn gives_more(alloc: Global, work: &mut Work) -> Result<(), Fail> {
     let mut source = MemSource::new(stream(alloc, 42641, 205)?, 1000, Vec::new(alloc));
     gives(&mut source, Form::Marked, work, FetchAnswer::Full)?;
-    has_all(work, &MARKED)?;
+    has_fetched(work, Form::Marked)?;
     gives(
         &mut source,
         Form::Marked,
@@ -124,7 +133,7 @@ fn a_plain_block_is_fetched_by_single_bytes(rt: HostRuntime) -> Result<(), Fail>
     let mut work = Work::new(alloc)?;
     let mut source = MemSource::new(stream(alloc, Form::Plain.size(), 182)?, 1, Vec::new(alloc));
     gives(&mut source, Form::Plain, &mut work, FetchAnswer::Full)?;
-    has_all(&work, &PLAIN)
+    has_fetched(&work, Form::Plain)
 }
 
 // Bytes of a stream, the calls of the source that fail, and what it gives as one block of the plain and of the marked

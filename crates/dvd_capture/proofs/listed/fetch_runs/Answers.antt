@@ -1,12 +1,10 @@
 -- The proof of `fetch_runs` in src/listed.rt.
-use Rattle.std.proofs.Common.{◌≡◌, ◌∙◌, ◌*◌, ◌≤◌, ◌++◌, ℕ, List, length, take, ap, sym, subst, arith, length-append}
-use Rattle.std.specs.Io.KnownBytes.{Consumes}
+use Rattle.std.proofs.Common.{◌∙◌, ◌++◌, length, ap, subst, arith, length-append}
 use Rattle.dvd_ports.proofs.StopLemmas.{goes_on}
-use Rattle.dvd_capture.specs.Fetching.{FetchCounts}
 use Rattle.dvd_capture.specs.Listed.{mark_of}
-use Rattle.dvd_capture.specs.Inner.Listing.{BreaksIn, HasFields, HasRuns, IsStopped, TakesNone}
+use Rattle.dvd_capture.specs.Inner.Listing.{IsStopped}
 use Rattle.dvd_capture.specs.Parts.{marks_rows}
-use Rattle.dvd_capture.proofs.ListedPieces.{Consumes-none, bad-counts, err-cause, fields-begun, fields-come, fields-grow, fields-whole, length-grow, stopped-at-field, stopped-in-fields}
+use Rattle.dvd_capture.proofs.ListedPieces.{Consumes-none, TakesFields, bad-counts, err-cause, fields-after, fields-begun, fields-whole, stopped-at-field, stopped-in-fields}
 use Rattle.dvd_capture.proofs.ListedTaken.{if_err, stopped-at-number, stopped-in-number}
 use Rattle.dvd_capture.proofs.listed.fetch_runs.Goals as goal
 
@@ -38,16 +36,12 @@ returns-in_err-read_fields-clause-stopped g c = λ before are.
 
 pub returns-in_err-taken-clause-stopped : goal.returns-in_err-taken-clause-stopped
 returns-in_err-taken-clause-stopped g c = λ before are.
-    let t = c.loop-fields.invariant.fields before are in
     let more = c.in_ok-read_fields.ensures.more in
-    let items = c.loop-fields.fields.items in
-    let mark = mark_of (marks_rows c.loop-fields.marks) in
     let is = c.as_slice.ensures.value ∙ more.puts in
-    let few = length-grow c.as_slice.result.now items more.own (4 * c.in_ok-number.number) is more.within in
-    let first = fields-grow (before ++ t.number) items c.in_ok-number.number mark c.loop-fields.taken t.has c.as_slice.result.now more.own is in
+    let after = fields-after before c.in_ok-number.number c.loop-fields.fields.items _ c.loop-fields.taken _ _ (c.loop-fields.invariant.fields before are) _
+    c.as_slice.result.now more.own is more.within more.taken in
     if_err c.from_residual-in_err-taken.result c.in_err-taken.field-0.0 (IsStopped before _ _) c.from_residual-in_err-taken.ensures.1
-    (stopped-at-field before t.number (items ++ more.own) _ _ (fields-come before c.in_ok-number.number items mark c.loop-fields.taken _ _ t _ more.own more.taken) c.in_err-taken.field-0.0
-    (subst (λ l. BreaksIn ((before ++ t.number) ++ l) c.in_err-taken.field-0.0) is (c.in_err-taken.ensures.broken (before ++ t.number) c.in_ok-number.number few first)))
+    (stopped-at-field before after.number _ _ _ after.came c.in_err-taken.field-0.0 (c.in_err-taken.ensures.broken (before ++ after.number) c.in_ok-number.number after.few after.first))
 
 pub returns-in_err-taken-clause-cause : goal.returns-in_err-taken-clause-cause
 returns-in_err-taken-clause-cause g c =
@@ -60,19 +54,12 @@ loop-fields-preserved g c =
       within = omega (arith, ap length more.puts, length-append c.loop-fields.fields.items more.own, more.within);
       taken = let w = c.in_ok-taken.ensures.within in omega (arith, w, ap length c.as_slice.ensures.value);
       fields = λ before are.
-          let t = c.loop-fields.invariant.fields before are in
-          let more = c.in_ok-read_fields.ensures.more in
-          let items = c.loop-fields.fields.items in
-          let mark = mark_of (marks_rows c.loop-fields.marks) in
           let is = c.as_slice.ensures.value ∙ more.puts in
-          let few = length-grow c.as_slice.result.now items more.own (4 * c.in_ok-number.number) is more.within in
-          let first = fields-grow (before ++ t.number) items c.in_ok-number.number mark c.loop-fields.taken t.has c.as_slice.result.now more.own is in
-          let now = c.in_ok-taken.ensures.taken (before ++ t.number) c.in_ok-number.number few first in record {
-            number = t.number;
-            consumed = subst (λ l. Consumes (g.S.Source.seen c.args.src.now).bytes (g.S.Source.seen c.read_fields.new.src).bytes (t.number ++ l)) (sym more.puts)
-                (fields-come before c.in_ok-number.number items mark c.loop-fields.taken _ _ t _ more.own more.taken);
-            has = subst (λ l. HasFields (before ++ t.number) c.in_ok-number.number l (mark_of (marks_rows c.take_runs.new.marks)) c.in_ok-taken.taken) c.as_slice.ensures.value now;
-          };
+          let after = fields-after before c.in_ok-number.number c.loop-fields.fields.items _ c.loop-fields.taken _ _ (c.loop-fields.invariant.fields before are) _
+          c.as_slice.result.now more.own is more.within more.taken in
+          subst (λ l. TakesFields before c.in_ok-number.number l (mark_of (marks_rows c.take_runs.new.marks)) c.in_ok-taken.taken
+          (g.S.Source.seen c.args.src.now).bytes (g.S.Source.seen c.read_fields.new.src).bytes) c.as_slice.ensures.value
+          (record { number = after.number; consumed = after.came; has = c.in_ok-taken.ensures.taken (before ++ after.number) c.in_ok-number.number after.few after.first });
       steady = goes_on _ _ _ c.loop-fields.invariant.steady c.in_ok-read_fields.ensures.cause;
     }
 

@@ -1,5 +1,5 @@
 -- The proof of `take_runs` in src/runs.rt.
-use Rattle.std.proofs.Common.{◌*◌, ◌<◌, ◌++◌, refl, sym, subst, arith}
+use Rattle.std.proofs.Common.{◌<◌, ◌++◌, refl, sym, subst, arith}
 use Rattle.dvd_capture.specs.Listed.{mark_of}
 use Rattle.dvd_capture.specs.Inner.Listing.{BreaksIn, IsBadMarks}
 use Rattle.dvd_capture.specs.Parts.{marks_rows}
