@@ -1,6 +1,7 @@
 -- Lists of which some places are changed, one after the other.
-use Rattle.std.proofs.Common.{◌≡◌, ◌≢◌, ◌∙◌, ℕ, ◌+◌, ◌<◌, List, [], length, get_or, set, length-set, get_or-set_other, get_or-set_same, refl, sym, ap, subst, arith, below_more}
+use Rattle.std.proofs.Common.{◌≡◌, ◌≢◌, ◌∙◌, ℕ, ◌+◌, ◌<◌, List, [], length, get_or, set, bit_xor, length-set, get_or-set_other, get_or-set_same, refl, sym, ap, subst, arith, below_more}
 use Rattle.std.proofs.lemmas.List.{ext_get_or, set-get_or, set-set}
+use Rattle.coding.specs.Product.{line, place}
 use Rattle.dvd_exercise.specs.Damage.{IsChanged}
 
 -- nothing is changed yet
@@ -72,6 +73,19 @@ line_more none i n place value before after next y inside new is changed within 
           (changed_more none n place value (get_or before i []) (get_or after i []) new is.line y (omega (arith, size, within)) same);
       lines = changed ∙ ap (λ (xs : List (List _)). set xs i line) is.lines ∙ set-set before i (get_or after i []) line ∙ ap (set before i) (sym here);
     }
+
+-- one byte of it more that becomes the exclusive or with another, at a place that is none of those
+pub line_combined : (i n : ℕ) (at byte : ℕ → ℕ) (before after next : List (List ℕ)) (j b : ℕ) → i < length before → ((t : ℕ) → t < n → at t ≢ at n)
+    → IsLineChanged 0 i n at (λ k. bit_xor (place before i (at k)) (byte k)) before after → j ≡ at n → b ≡ byte n
+    → next ≡ set after i (set (line after i) j (bit_xor (place after i j) b)) → at n < length (line next i)
+    → IsLineChanged 0 i (n + 1) at (λ k. bit_xor (place before i (at k)) (byte k)) before next
+line_combined i n at byte before after next j b inside new is here same changed within =
+    let value = λ (k : ℕ). bit_xor (place before i (at k)) (byte k) in
+    line_more 0 i n at value before after next (bit_xor (place after i (at n)) (byte n)) inside new is
+    (changed
+    ∙ ap (λ (k : ℕ). set after i (set (line after i) k (bit_xor (place after i k) b))) here
+    ∙ ap (λ (y : ℕ). set after i (set (line after i) (at n) (bit_xor (place after i (at n)) y))) same)
+    within (ap (λ (x : ℕ). bit_xor x (byte n)) (line_untouched 0 i n at value before after new is))
 
 -- all places of it, from the first
 pub line_whole : {X : Type 0} (none : X) (i n : ℕ) (value : ℕ → X) (before after : List (List X)) (whole : List X)

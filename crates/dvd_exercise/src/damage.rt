@@ -4,7 +4,7 @@
 //! that of a received block without answers, and stays so. In clauses `IsChanged` says that so many places of a list
 //! have new values, and all others stay; its first argument is the value of a place beyond the end, which no place here
 //! is. `HasErrors` says that a row has the single errors that are drawn from a state, `KeepsFound` that answers,
-//! columns and sectors stay, and `KeepsRest` that these and the stage do.
+//! columns and sectors stay, `KeepsRest` that these and the stage do, and `KeepsAllButBytes` that the marks do too.
 ghost use Rattle.std.specs.Prelude.{◌≡◌, ℕ, ◌+◌, ◌*◌, ◌<◌, ◌≤◌, true, false, [], length, replicate, slice_set, bit_xor};
 ghost use Rattle.coding.specs.Product.{line, place};
 ghost use Rattle.dvd_capture.specs.Kept.{KeepsFound};
@@ -13,7 +13,7 @@ ghost use Rattle.dvd_capture.specs.Works.{marks_of_work, rows_of, stage_of};
 ghost use Rattle.dvd_capture.specs.declared.stage.Stage.TheVariants.{Fetched};
 ghost use Rattle.dvd_exercise.specs.Damage.{HasErrors, IsChanged, IsHurt, bad_count, combined, drawn_errors, hurt_state, is_hit, lost_count, damaged_row, row_state, start_row};
 ghost use Rattle.dvd_exercise.specs.Generator.{state_after, state_of};
-ghost use Rattle.dvd_exercise.specs.Inner.Kept.{KeepsRest};
+ghost use Rattle.dvd_exercise.specs.Inner.Kept.{KeepsAllButBytes, KeepsRest};
 
 use crate::generator::Rand;
 use dvd_capture::Work;
@@ -111,8 +111,7 @@ fn combine(work: &mut Work, i: usize, j: usize, byte: u8)
     requires place { j < 182 }
     ensures received { rows_of work.new ≡ slice_set (rows_of work.old) i (slice_set (line (rows_of work.old) i) j (bit_xor (place (rows_of work.old) i j) byte)) }
     ensures width { length (line (rows_of work.new) i) ≡ 182 }
-    ensures marks { marks_of_work work.new ≡ marks_of_work work.old }
-    ensures rest { KeepsRest work.old work.new }
+    ensures rest { KeepsAllButBytes work.old work.new }
 {
     let received = work.received(i, j);
     let mark = work.marked(i, j);
@@ -126,8 +125,7 @@ fn combine_row(rand: &mut Rand, work: &mut Work, i: usize)
     requires row { i < 208 }
     ensures received { rows_of work.new ≡ slice_set (rows_of work.old) i (combined (state_of rand.old) (line (rows_of work.old) i)) }
     ensures drawn { state_of rand.new ≡ state_after (state_of rand.old) 182 }
-    ensures marks { marks_of_work work.new ≡ marks_of_work work.old }
-    ensures rest { KeepsRest work.old work.new }
+    ensures rest { KeepsAllButBytes work.old work.new }
 {
     for j in 0..182 {
         let byte = rand.byte();
@@ -158,8 +156,7 @@ fn hurt_row(rand: &mut Rand, work: &mut Work, i: usize)
     ensures received { HasErrors (state_of rand.old) (line (rows_of work.old) i) (line (rows_of work.new) i) }
     ensures others { rows_of work.new ≡ slice_set (rows_of work.old) i (line (rows_of work.new) i) }
     ensures drawn { state_of rand.new ≡ state_after (state_of rand.old) (2 + drawn_errors (state_of rand.old)) }
-    ensures marks { marks_of_work work.new ≡ marks_of_work work.old }
-    ensures rest { KeepsRest work.old work.new }
+    ensures rest { KeepsAllButBytes work.old work.new }
 {
     // At most five, which the ten parity bytes of a row correct. So none of these rows fails in the first pass.
     let count = (rand.word() % 6) as usize;
@@ -175,8 +172,7 @@ fn combine_rows(plan: &Plan, rand: &mut Rand, work: &mut Work)
     requires stage { stage_of work.old ≡ Fetched }
     ensures received { IsChanged [] plan.now.bad (damaged_row plan.now.start) (λ t. combined (state_after (state_of rand.old) (182 * t)) (line (rows_of work.old) (damaged_row plan.now.start t))) (rows_of work.old) (rows_of work.new) }
     ensures drawn { state_of rand.new ≡ state_after (state_of rand.old) (182 * plan.now.bad) }
-    ensures marks { marks_of_work work.new ≡ marks_of_work work.old }
-    ensures rest { KeepsRest work.old work.new }
+    ensures rest { KeepsAllButBytes work.old work.new }
 {
     for turn in 0..plan.bad {
         combine_row(rand, work, plan.row(turn));
@@ -204,8 +200,7 @@ fn hurt_others(plan: &Plan, rand: &mut Rand, work: &mut Work)
     ensures others { (row : ℕ) → row < 208 → is_hit plan.now.start (plan.now.bad + plan.now.lost) row ≡ false
         → HasErrors (row_state plan.now.start (plan.now.bad + plan.now.lost) (state_of rand.old) row) (line (rows_of work.old) row) (line (rows_of work.new) row) }
     ensures drawn { state_of rand.new ≡ row_state plan.now.start (plan.now.bad + plan.now.lost) (state_of rand.old) 208 }
-    ensures marks { marks_of_work work.new ≡ marks_of_work work.old }
-    ensures rest { KeepsRest work.old work.new }
+    ensures rest { KeepsAllButBytes work.old work.new }
 {
     for row in 0..208 {
         if !plan.hits(row) {

@@ -1,9 +1,9 @@
 -- What each turn of the loop in `combine_row` keeps.
 use Rattle.std.proofs.Common.{◌≡◌, ◌<◌, length, bit_xor}
 use Rattle.coding.specs.Product.{line, place}
-use Rattle.dvd_capture.specs.Works.{marks_of_work, rows_of}
+use Rattle.dvd_capture.specs.Works.{rows_of}
 use Rattle.dvd_exercise.specs.Generator.{drawn_byte, state_after, state_of}
-use Rattle.dvd_exercise.specs.Inner.Kept.{KeepsRest}
+use Rattle.dvd_exercise.specs.Inner.Kept.{KeepsAllButBytes}
 use Rattle.dvd_exercise.proofs.Changed.{IsLineChanged}
 use Rattle.dvd_exercise.proofs.damage.combine_row.Given as goal
 
@@ -12,6 +12,5 @@ invariant-loop-j l = record {
   row : IsLineChanged 0 l.i l.j (λ k. k) (λ k. bit_xor (place (rows_of l.fn.work) l.i k) (drawn_byte (state_of l.fn.rand) k)) (rows_of l.fn.work) (rows_of l.work);
   width : 0 < l.j → length (line (rows_of l.work) l.i) ≡ 182;
   drawn : state_of l.rand ≡ state_after (state_of l.fn.rand) l.j;
-  marks : marks_of_work l.work ≡ marks_of_work l.fn.work;
-  rest : KeepsRest l.fn.work l.work;
+  rest : KeepsAllButBytes l.fn.work l.work;
 }

@@ -1,5 +1,5 @@
 -- The proof of `combine_rows` in src/damage.rt.
-use Rattle.std.proofs.Common.{◌≡◌, ◌∙◌, ℕ, ◌+◌, ◌*◌, [], refl, sym, ap, arith}
+use Rattle.std.proofs.Common.{◌≡◌, ◌∙◌, ℕ, ◌+◌, ◌*◌, [], sym, ap, arith}
 use Rattle.coding.specs.Product.{line}
 use Rattle.dvd_capture.specs.Works.{rows_of}
 use Rattle.dvd_capture.proofs.WorkParts.{rows-height}
@@ -8,15 +8,14 @@ use Rattle.dvd_exercise.specs.Generator.{state_after, state_of}
 use Rattle.dvd_exercise.proofs.Changed.{changed_next, changed_none}
 use Rattle.dvd_exercise.proofs.Draws.{state-add, state_none}
 use Rattle.dvd_exercise.proofs.Rows.{damaged_row-new}
-use Rattle.dvd_exercise.proofs.Works.{rest-same, rest-then}
+use Rattle.dvd_exercise.proofs.Works.{but_bytes-same, but_bytes-then}
 use Rattle.dvd_exercise.proofs.damage.combine_rows.Goals as goal
 
 pub loop-turn-init : goal.loop-turn-init
 loop-turn-init c = record {
   rows = changed_none [] (damaged_row c.args.plan.now.start) (λ t. combined (state_after (state_of c.args.rand.now) (182 * t)) (line (rows_of c.args.work.now) (damaged_row c.args.plan.now.start t))) (rows_of c.args.work.now);
   drawn = sym (state_none (state_of c.args.rand.now));
-  marks = refl;
-  rest = rest-same c.args.work.now c.requires.stage;
+  rest = but_bytes-same c.args.work.now c.requires.stage;
 }
 
 pub loop-turn-preserved : goal.loop-turn-preserved
@@ -32,6 +31,5 @@ loop-turn-preserved c =
           c.combine_row.ensures.received
           (λ same. ap (λ (x : ℕ). combined x (line (rows_of c.loop-turn.work) c.row.result)) before ∙ ap (combined (state_after y (182 * t))) (same ∙ ap (line rows) c.row.ensures.row));
       drawn = c.combine_row.ensures.drawn ∙ ap (λ (x : ℕ). state_after x 182) before ∙ state-add y (182 * t) 182 ∙ ap (state_after y) count;
-      marks = c.combine_row.ensures.marks ∙ c.loop-turn.invariant.marks;
-      rest = rest-then c.args.work.now c.loop-turn.work c.combine_row.new.work c.loop-turn.invariant.rest c.combine_row.ensures.rest;
+      rest = but_bytes-then c.args.work.now c.loop-turn.work c.combine_row.new.work c.loop-turn.invariant.rest c.combine_row.ensures.rest;
     }

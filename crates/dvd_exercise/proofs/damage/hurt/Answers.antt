@@ -18,7 +18,7 @@ whole c =
     (rows_of c.args.work.now) (rows_of c.combine_rows.new.work) (rows_of c.lose_rows.new.work) (rows_of c.hurt_others.new.work)
     (marks_of_work c.args.work.now) (marks_of_work c.combine_rows.new.work) (marks_of_work c.lose_rows.new.work) (marks_of_work c.hurt_others.new.work)
     (omega (arith, plan.bound)) (rows-height c.hurt_others.new.work.received ∙ sym (rows-height c.args.work.now.received))
-    c.combine_rows.ensures.received c.lose_rows.ensures.received c.lose_rows.ensures.marks c.combine_rows.ensures.marks c.hurt_others.ensures.marks
+    c.combine_rows.ensures.received c.lose_rows.ensures.received c.lose_rows.ensures.marks c.combine_rows.ensures.rest.marks c.hurt_others.ensures.rest.marks
     c.combine_rows.ensures.drawn c.hurt_others.ensures.hit c.hurt_others.ensures.others)
 
 pub returns-clause-hurt : goal.returns-clause-hurt

@@ -1,12 +1,12 @@
 -- The proof of `hurt_others` in src/damage.rt.
-use Rattle.std.proofs.Common.{◌≡◌, ◌∙◌, ℕ, ◌+◌, true, false, refl, sym, ap, subst}
+use Rattle.std.proofs.Common.{◌≡◌, ◌∙◌, ℕ, ◌+◌, true, false, sym, ap, subst}
 use Rattle.coding.specs.Product.{line}
-use Rattle.dvd_capture.specs.Works.{marks_of_work, rows_of}
+use Rattle.dvd_capture.specs.Works.{rows_of}
 use Rattle.dvd_exercise.specs.Damage.{HasErrors, drawn_errors, is_hit}
 use Rattle.dvd_exercise.specs.Generator.{state_after, state_of}
-use Rattle.dvd_exercise.specs.Inner.Kept.{KeepsRest}
+use Rattle.dvd_exercise.specs.Inner.Kept.{KeepsAllButBytes}
 use Rattle.dvd_exercise.proofs.Rows.{AreHurtBelow, hurt-errors, hurt-hit, hurt_none, state-errors, state-hit, state_first}
-use Rattle.dvd_exercise.proofs.Works.{rest-same, rest-then}
+use Rattle.dvd_exercise.proofs.Works.{but_bytes-same, but_bytes-then}
 use Rattle.dvd_exercise.proofs.damage.hurt_others.Goals as goal
 use Rattle.dvd_exercise.proofs.damage.hurt_others.Goals.{then-not-hits, else-not-hits}
 
@@ -14,8 +14,7 @@ pub loop-row-init : goal.loop-row-init
 loop-row-init c = record {
   rows = hurt_none c.args.plan.now.start (c.args.plan.now.bad + c.args.plan.now.lost) (state_of c.args.rand.now) (rows_of c.args.work.now);
   drawn = sym (state_first c.args.plan.now.start (c.args.plan.now.bad + c.args.plan.now.lost) (state_of c.args.rand.now));
-  marks = refl;
-  rest = rest-same c.args.work.now c.requires.stage;
+  rest = but_bytes-same c.args.work.now c.requires.stage;
 }
 
 pub loop-row-preserved : goal.loop-row-preserved
@@ -33,16 +32,14 @@ loop-row-preserved c =
                 (hurt-errors start n y rows (rows_of c.loop-row.work) row c.loop-row.invariant.rows (rows_of w.hurt_row.new.work) miss w.hurt_row.ensures.others
                 (subst (λ x. HasErrors x (line (rows_of c.loop-row.work) row) (line (rows_of w.hurt_row.new.work) row)) c.loop-row.invariant.drawn w.hurt_row.ensures.received));
             drawn = ap state_of w.rand-is ∙ w.hurt_row.ensures.drawn ∙ ap (λ (x : ℕ). state_after x (2 + drawn_errors x)) c.loop-row.invariant.drawn ∙ sym (state-errors start n y row miss);
-            marks = ap marks_of_work w.work-is ∙ w.hurt_row.ensures.marks ∙ c.loop-row.invariant.marks;
-            rest = subst (KeepsRest c.args.work.now) (sym w.work-is)
-                (rest-then c.args.work.now c.loop-row.work w.hurt_row.new.work c.loop-row.invariant.rest w.hurt_row.ensures.rest);
+            rest = subst (KeepsAllButBytes c.args.work.now) (sym w.work-is)
+                (but_bytes-then c.args.work.now c.loop-row.work w.hurt_row.new.work c.loop-row.invariant.rest w.hurt_row.ensures.rest);
           }
       | else-not-hits w ↦
           let hit : is_hit start n row ≡ true = sym c.hits.ensures ∙ w.if-not-hits.false in record {
             rows = subst (λ next. AreHurtBelow start n y rows next (row + 1)) (sym (ap rows_of w.work-is))
                 (hurt-hit start n y rows (rows_of c.loop-row.work) row c.loop-row.invariant.rows hit);
             drawn = ap state_of w.rand-is ∙ c.loop-row.invariant.drawn ∙ sym (state-hit start n y row hit);
-            marks = ap marks_of_work w.work-is ∙ c.loop-row.invariant.marks;
-            rest = subst (KeepsRest c.args.work.now) (sym w.work-is) c.loop-row.invariant.rest;
+            rest = subst (KeepsAllButBytes c.args.work.now) (sym w.work-is) c.loop-row.invariant.rest;
           }
     ]
