@@ -2,20 +2,20 @@
 //! a block is shared out. Blocks side by side would need a captured block for each worker, and an order for what they
 //! write. `rt` is the runtime, which makes the threads, and `gate` is asked before each piece: only gates of tests do
 //! anything.
-ghost use Rattle.std.specs.Prelude.{◌≡◌, ◌+◌, ◌<◌, ◌≤◌, length, map, IsTrue};
-ghost use Rattle.coding.specs.Filling.{marked};
+ghost use Rattle.std.specs.Prelude.{◌≡◌, ◌+◌, ◌<◌, ◌≤◌, length, map};
 ghost use Rattle.dvd_capture.specs.Rule.{HasBlock};
 ghost use Rattle.coding.specs.TwoPass.{failed_of};
-ghost use Rattle.dvd_capture.specs.Works.{answers_of_work, marks_of_work, rows_of, stage_of};
-ghost use Rattle.dvd_capture.specs.Parts.{column_answers, marks_rows, received_rows};
-ghost use Rattle.dvd_read.specs.Calls.{IsDecoded};
-ghost use Rattle.dvd_read.specs.Parts.{AreAnswersFrom, AreColumnsFrom, AreKeptFrom, answer_word};
+ghost use Rattle.dvd_capture.specs.Works.{stage_of};
+ghost use Rattle.dvd_capture.specs.Parts.{marks_rows, received_rows};
+ghost use Rattle.dvd_capture.specs.Kept.{KeepsReceived};
+ghost use Rattle.dvd_read.specs.Calls.{AreColumnsAnswered, AreBothAnswered, IsDecoded};
+ghost use Rattle.dvd_read.specs.Parts.{AreAnswersFrom, AreColumnsFrom, answer_word};
 
 use crate::cutting::for_each_piece;
 use crate::gate::Gate;
 use dvd_capture::parts::{AnswerRow, ColumnAnswer, Marks, Received};
 use dvd_capture::{Stage, Work};
-use dvd_read::parts::{answer_columns, answer_rows, are_few, are_kept, end_passes, mark_failed};
+use dvd_read::parts::{answer_columns, answer_rows, are_kept, end_passes, few_failed};
 use dvd_read::{Cause, Fixed};
 use rs_code::{Pi, Po};
 use std::thread::Threads;
@@ -51,12 +51,8 @@ pub(crate) fn answer_block<R: Threads + Sync, G: Gate>(
 ) -> bool
     requires workers { (1 ≤ workers) × (workers ≤ 16) }
     requires stage { HasBlock (stage_of work.old) }
-    ensures answers { AreAnswersFrom (rows_of work.old) (marks_of_work work.old) 0 (answers_of_work work.new) }
-    ensures columns { marked (failed_of (map answer_word (answers_of_work work.new))) ≤ 16
-        → AreColumnsFrom (map answer_word (answers_of_work work.new)) 0 (column_answers work.new.columns) }
-    ensures kept { IsTrue result → AreKeptFrom (answers_of_work work.new) 0 (column_answers work.new.columns) }
-    ensures received { work.new.received ≡ work.old.received }
-    ensures marks { work.new.marks ≡ work.old.marks }
+    ensures answered { AreBothAnswered work.new result }
+    ensures received { KeepsReceived work.old work.new }
     ensures sectors { work.new.sectors ≡ work.old.sectors }
 {
     // Answers of an earlier reading don't count from here on, since they are overwritten. The stage stays Fetched:
@@ -107,14 +103,11 @@ fn column_pass<R: Threads + Sync, G: Gate>(
     requires workers { 1 ≤ workers }
     requires rows { length answers.now ≡ 208 }
     requires columns { length columns.old ≡ 182 }
-    ensures columns { marked (failed_of (map answer_word answers.now)) ≤ 16 → AreColumnsFrom (map answer_word answers.now) 0 columns.new }
-    ensures kept { IsTrue result → AreKeptFrom answers.now 0 columns.new }
+    ensures { AreColumnsAnswered answers.now columns.new result }
 {
-    let mut failed = [false; 208];
-    mark_failed(answers, &mut failed);
-    if !are_few(&failed) {
+    let Some(failed) = few_failed(answers) else {
         return false;
-    }
+    };
     // One worker sees all columns, and so knows by itself whether they keep the rows. The gate is asked here, as
     // `for_each_piece` asks it.
     if workers == 1 {

@@ -11,14 +11,12 @@ use crate::gate::Gate;
 use crate::passes::answer_block;
 use dvd_capture::Work;
 use dvd_layout::BlockPlan;
-use dvd_read::parts::{FrameSource, end_passes, sectors_of_block};
+use dvd_read::parts::end_reading;
 use dvd_read::{Cause, Fixed};
 use std::thread::Threads;
 
 /// Reads a captured block as `dvd_read::read_block` does, with so many workers in both passes: with the same clauses,
-/// and by the same calls after the passes. `tactic` lets the prover unfold the cause of a block: that of two passes, or
-/// else that of its frames.
-#[tactic(auto, unfolding(dvd_decoding::specs::Reading::block_cause))]
+/// and by the same call after the passes.
 pub fn read_block_par<R: Threads + Sync, G: Gate>(
     rt: &R,
     workers: u8,
@@ -31,20 +29,6 @@ pub fn read_block_par<R: Threads + Sync, G: Gate>(
     requires numbers { HasNumbers plan.now }
     ensures { IsBlockRead work.old work.new plan.now result }
 {
-    // Whether the columns keep the rows that were answered: it spares a test, and says where rows can be read whole.
     let are_kept = answer_block(rt, workers, gate, work);
-    match end_passes(work, are_kept) {
-        Ok(fixed) => {
-            // Where no byte differs from those received, the frames are read from these; where the columns keep the
-            // rows, from the rows' answers; else from the columns. Each has the same bytes, and the first two have
-            // them in order. It sets the sectors to zeros itself where a frame has a cause. It isn't shared out.
-            sectors_of_block(work, plan, FrameSource::of(fixed.bytes, are_kept))?;
-            Ok(fixed)
-        }
-        Err(cause) => {
-            // A refused block has no sectors, and none of an earlier block may be taken for its own.
-            work.blank();
-            Err(cause)
-        }
-    }
+    end_reading(work, plan, are_kept)
 }

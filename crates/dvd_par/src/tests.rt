@@ -57,7 +57,7 @@ pub(crate) fn received(
             if t < bad {
                 hurt(&mut work, i, j, 0x5A, j % 17 > 0);
             } else if t < bad.wrapping_add(lost) {
-                mark(&mut work, i, j);
+                put(&mut work, i, j, 0, true);
             }
         }
     }
@@ -71,14 +71,20 @@ fn hurt(work: &mut Work, i: usize, j: usize, change: u8, kept: bool) {
     }
 }
 
-fn mark(work: &mut Work, i: usize, j: usize) {
+// Sets a received byte and its mark. It does nothing where `damage` would ask for more than is known here: a stage, or
+// a row and a place of the block.
+pub(crate) fn put(work: &mut Work, i: usize, j: usize, byte: u8, mark: bool) {
     if work.stage() == Stage::Fetched && i < 208 && j < 182 {
-        work.damage(i, j, 0, true);
+        work.damage(i, j, byte, mark);
     }
 }
 
 // What two passes answer with so many workers, where a block was received; with none, by the plain call.
-fn decode<R: Threads + Sync>(rt: &R, workers: u8, work: &mut Work) -> Option<Result<Fixed, Cause>> {
+pub(crate) fn decode<R: Threads + Sync>(
+    rt: &R,
+    workers: u8,
+    work: &mut Work,
+) -> Option<Result<Fixed, Cause>> {
     if work.stage() != Stage::Fetched || workers > 16 {
         None
     } else if workers == 0 {

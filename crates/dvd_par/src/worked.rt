@@ -1,15 +1,15 @@
-//! Both passes with several workers, over blocks whose answers were worked out from the standard.
-use crate::{OpenGate, two_pass_par};
+//! Both passes, by the plain call and with several workers, over blocks whose answers were worked out from the standard.
+use crate::tests::{decode, put};
 use dvd_block::Block;
-use dvd_capture::{Stage, Work};
+use dvd_capture::Work;
 use dvd_read::{Cause, Fixed};
 use gf_field::mul;
 use std::alloc::Global;
 use std::test::Fail;
 use std::thread::Threads;
 
-// One, the most, and a number that divides neither 208 rows nor 182 columns.
-static WORKERS: [u8; 3] = [1, 3, 16];
+// None, so that the plain call answers; one, the most, and a number that divides neither 208 rows nor 182 columns.
+static WORKERS: [u8; 4] = [0, 1, 3, 16];
 
 // The row codeword of the generator polynomial of PI: it is at the last eleven places, 171 to 181, and zeros before.
 // Moved to the left by some places it is a codeword too.
@@ -27,14 +27,6 @@ fn zero_block(alloc: Global) -> Result<Work, Fail> {
     let mut work = Work::new(alloc)?;
     work.load_block(&Block::new(alloc)?);
     Ok(work)
-}
-
-// Sets a received byte and its mark. It does nothing where `damage` would ask for more than is known here: a stage, or
-// a row and a place of the block.
-fn put(work: &mut Work, i: usize, j: usize, byte: u8, mark: bool) {
-    if work.stage() == Stage::Fetched && i < 208 && j < 182 {
-        work.damage(i, j, byte, mark);
-    }
 }
 
 // Puts a multiple of the generator's codeword into row `i` from place `j` on.
@@ -86,14 +78,6 @@ fn wrong_row(alloc: Global) -> Result<Work, Fail> {
     }
     put_codeword(&mut work, 199, 161, 0x08);
     Ok(work)
-}
-
-// Both passes, where a block was received.
-fn decode<R: Threads + Sync>(rt: &R, workers: u8, work: &mut Work) -> Option<Result<Fixed, Cause>> {
-    if work.stage() != Stage::Fetched || workers == 0 || workers > 16 {
-        return None;
-    }
-    Some(two_pass_par(rt, workers, &OpenGate, work))
 }
 
 // What was received: rows that are lost, so many; eight rows of another codeword; these and a lost row; or rows whose

@@ -39,9 +39,10 @@ prefixes-next block f q old new row put prefix is =
     rw (size, prefixes-more block f q) (put ∙ ap (λ (l : List ℕ). l ++ take 172 row) prefix ∙ ap (λ (r : List ℕ). prefixes block f q ++ take 172 r) is)
 
 -- a list of 2,064 bytes that are the fronts of all twelve rows is the frame
-pub prefixes-all : (block : List (List ℕ)) (f : ℕ) (frame : List ℕ) → length frame ≡ 2064 → take (172 * 12) frame ≡ prefixes block f 12 → frame ≡ frame_of block f
+pub prefixes-all : (block : List (List ℕ)) (f q : ℕ) (frame : List ℕ) → length frame ≡ 2064 → q ≡ 12 → take (172 * q) frame ≡ prefixes block f q → frame ≡ frame_of block f
 unfolding frame_of
-prefixes-all block f frame size prefix = sym (take_all 2064 frame (omega arith)) ∙ prefix
+prefixes-all block f q frame size last prefix =
+    sym (take_all 2064 frame (omega arith)) ∙ ap (λ (n : ℕ). take (172 * n) frame) (sym last) ∙ prefix ∙ ap (prefixes block f) last
 
 -- one row more has 182 bytes
 pub width-next : (block : List (List ℕ)) (f q : ℕ) (row : List ℕ) → row ≡ line block (12 * f + q) → length row ≡ 182

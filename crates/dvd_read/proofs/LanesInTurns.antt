@@ -1,8 +1,8 @@
 -- Lanes of two vectors in turns, and what holds of sixteen numbers more.
-use Rattle.std.proofs.Common.{◌≡◌, ℕ, ◌+◌, ◌-◌, ◌*◌, ◌%◌, ◌<◌, inl, inr, List, ◌++◌, length, get_or, map, ap, subst, ◌∙◌, arith}
-use Rattle.std.proofs.lemmas.Bool.{cases_lt}
+use Rattle.std.proofs.Common.{◌≡◌, ℕ, ◌+◌, ◌*◌, ◌%◌, ◌<◌, List, ◌++◌, length, get_or, map, ap, ◌∙◌, arith}
 use Rattle.std.specs.List.{range_with_len}
 use Rattle.std.proofs.lemmas.List.FromFn.{get_or-map-range_with_len}
+use Rattle.rs_lanes.proofs.ColumnLemmas.{group_more}
 use Rattle.std.proofs.lemmas.List.{get_or_append_left, get_or-append-add}
 
 -- lanes of two vectors in turns, lane n from lane f n
@@ -25,13 +25,8 @@ in_turns-odd f a b n size below odd =
     ∙ ap (λ m. get_or (a ++ b) m 0) (omega arith)
     ∙ get_or-append-add a b (f n) 0
 
--- what holds below a number, and of the sixteen from it on, holds of all these
+-- what holds below a number, and of the sixteen from it on, holds of all these; of 32 it is known
 pub sixteen_more : (P : ℕ → Type 0) (at : ℕ) → ((j : ℕ) → j < at → P j) → ((j : ℕ) → j < 16 → P (at + j))
     → (j : ℕ) → j < at + 16 → P j
 sixteen_more P at before more j below =
-    elim (cases_lt j at) [
-      | inl under ↦ before j under
-      | inr over ↦
-          let whole : at + (j - at) ≡ j = omega arith in
-          subst P whole (more (j - at) (omega arith))
-    ]
+    group_more (λ k. k < at + 16 → P k) at (λ k under _. before k under) (λ k _ inside. more k (omega arith)) j (omega arith) below

@@ -1,10 +1,13 @@
 -- Ours: what the calls that decode and read a captured block do, whoever does the pieces of both passes.
-use Rattle.std.specs.Prelude.{◌≡◌, None, Some, replicate, Result, IfErr, IfOk, OnErr, OnOk}
+use Rattle.std.specs.Prelude.{◌≡◌, ◌≤◌, Bool, List, None, Some, map, replicate, Result, IsTrue, IfErr, IfOk, OnErr, OnOk}
 use Rattle.coding.specs.Filling.{marked}
 use Rattle.dvd_capture.specs.Answers.{AreAnswers}
 use Rattle.dvd_capture.specs.Rule.{HasAnswers}
 use Rattle.coding.specs.TwoPass.{answers_of, failed_of}
 use Rattle.dvd_capture.specs.Works.{answers_of_work, block_of, marks_of_work, rows_of, sectors_of, stage_of}
+use Rattle.dvd_capture.specs.Parts.{column_answers}
+use Rattle.dvd_capture.specs.declared.parts.AnswerRow.{AnswerRow}
+use Rattle.dvd_capture.specs.declared.parts.ColumnAnswer.{ColumnAnswer}
 use Rattle.dvd_capture.specs.declared.stage.Stage.TheVariants.{Fixed as StageFixed, Refused as StageRefused}
 use Rattle.dvd_capture.specs.declared.work.Work.{Work}
 use Rattle.dvd_layout.specs.declared.entry.BlockPlan.{BlockPlan}
@@ -14,6 +17,18 @@ use Rattle.dvd_decoding.specs.Frames.{frames_cause, main_data}
 use Rattle.dvd_decoding.specs.Reading.{block_cause, block_in, IsReadAs}
 use Rattle.dvd_decoding.specs.declared.cause.Cause.{Cause}
 use Rattle.dvd_read.specs.declared.fixed.Fixed.{Fixed}
+use Rattle.dvd_read.specs.Parts.{AreAnswersFrom, AreColumnsFrom, AreKeptFrom, answer_word}
+
+-- The second pass answered these columns of the rows' answers, where no more rows failed than it corrects. Where that is
+-- known, they keep the rows that were answered.
+pub record AreColumnsAnswered (answers : List AnswerRow) (columns : List ColumnAnswer) (are_kept : Bool) : Type 0 where
+  pub found : marked (failed_of (map answer_word answers)) ≤ 16 → AreColumnsFrom (map answer_word answers) 0 columns
+  pub kept : IsTrue are_kept → AreKeptFrom answers 0 columns
+
+-- Both passes answered the rows and the columns of a captured block.
+pub record AreBothAnswered (work : Work) (are_kept : Bool) : Type 0 where
+  pub rows : AreAnswersFrom (rows_of work) (marks_of_work work) 0 (answers_of_work work)
+  pub columns : AreColumnsAnswered (answers_of_work work) (column_answers work.columns) are_kept
 
 -- A captured block was decoded by two passes: its columns are a block, or there is a first cause, and the stage says
 -- which.

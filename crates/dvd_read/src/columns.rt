@@ -48,7 +48,7 @@ pub fn answer_columns(
     ensures kept { IsTrue result → AreKeptFrom answers.now start piece.new }
 {
     copy_columns(answers, start, piece);
-    // Callers ask `are_few` before, so that no column is copied in vain. The test is here again because the clauses
+    // Callers ask `few_failed` before, so that no column is copied in vain. The test is here again because the clauses
     // hold of any number of failed rows: with more than sixteen no column has a codeword near it. `shared` computes
     // once what all columns need of the failed rows' places.
     match Erasures::shared(failed, usize::from(MOST_FAILED)) {

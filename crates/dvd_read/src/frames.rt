@@ -64,7 +64,7 @@ impl FrameSource {
 }
 
 /// Checks the frames as `sectors` does, of rows that are read from this source. The source changes no answer, only
-/// time. It is for callers that answered the passes and know whether the rows are kept: `read_block`, and dvd_par.
+/// time. It is for callers that answered the passes and know whether the rows are kept, as `end_reading` does.
 pub fn sectors_of_block(work: &mut Work, plan: &BlockPlan, source: FrameSource) -> Result<(), Cause>
     requires stage { stage_of work.old ≡ Stage.Fixed }
     requires numbers { HasNumbers plan.now }

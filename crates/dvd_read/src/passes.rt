@@ -3,7 +3,7 @@
 //! A `Work` has received rows, marks, answers of rows and columns, and a stage: at Fetched no answer counts, at Refused
 //! the rows' answers do, and at Fixed the columns are the block as well. In clauses `AreKeptFrom` says of columns, and
 //! `AreRowsKept` of a block, that the answered rows are kept.
-ghost use Rattle.std.specs.Prelude.{◌≡◌, ℕ, ◌<◌, ◌≤◌, Bool, List, None, Some, true, false, is_some, length, map, not, position, slice_index_or, IsTrue, IfErr, IfOk, OnErr, OnOk};
+ghost use Rattle.std.specs.Prelude.{◌≡◌, ℕ, ◌<◌, ◌≤◌, Bool, List, None, Some, true, false, is_some, length, map, not, position, slice_index_or, IsTrue, MatchOption, IfErr, IfOk, OnErr, OnOk};
 ghost use Rattle.coding.specs.Distance.{distance};
 ghost use Rattle.coding.specs.Filling.{marked};
 ghost use Rattle.coding.specs.Nearest.{vanishes_at_all};
@@ -13,7 +13,8 @@ ghost use Rattle.dvd_capture.specs.Rule.{HasAnswers, HasBlock, HasNoTwoPass};
 ghost use Rattle.coding.specs.TwoPass.{AgreesWith, answers_of, failed_of, from_columns, IsTwoPass};
 ghost use Rattle.dvd_capture.specs.Works.{answers_of_work, block_of, marks_of_work, rows_of, stage_of};
 ghost use Rattle.dvd_capture.specs.Parts.{column_answers, received_rows};
-ghost use Rattle.dvd_read.specs.Calls.{IsDecoded};
+ghost use Rattle.dvd_capture.specs.Kept.{KeepsReceived};
+ghost use Rattle.dvd_read.specs.Calls.{AreColumnsAnswered, AreBothAnswered, IsDecoded};
 ghost use Rattle.dvd_decoding.specs.Causes.{two_pass_cause};
 ghost use Rattle.coding.specs.Found.{block_differences, block_found};
 ghost use Rattle.dvd_read.specs.Parts.{AreAnswersFrom, AreColumnsFrom, AreKeptFrom, AreRowsKept, answer_word};
@@ -48,12 +49,8 @@ pub fn two_pass(work: &mut Work) -> Result<Fixed, Cause>
 /// likewise in dvd_par, and end by the same call.
 pub(crate) fn answer_block(work: &mut Work) -> bool
     requires { HasBlock (stage_of work.old) }
-    ensures answers { AreAnswersFrom (rows_of work.old) (marks_of_work work.old) 0 (answers_of_work work.new) }
-    ensures columns { marked (failed_of (map answer_word (answers_of_work work.new))) ≤ 16
-        → AreColumnsFrom (map answer_word (answers_of_work work.new)) 0 (column_answers work.new.columns) }
-    ensures kept { IsTrue result → AreKeptFrom (answers_of_work work.new) 0 (column_answers work.new.columns) }
-    ensures received { work.new.received ≡ work.old.received }
-    ensures marks { work.new.marks ≡ work.old.marks }
+    ensures answered { AreBothAnswered work.new result }
+    ensures received { KeepsReceived work.old work.new }
     ensures sectors { work.new.sectors ≡ work.old.sectors }
 {
     // The answers are about to be overwritten, and at this stage nothing is said of them.
@@ -74,15 +71,23 @@ pub(crate) fn answer_block(work: &mut Work) -> bool
 fn answer_all_columns(answers: &[AnswerRow], columns: &mut [ColumnAnswer]) -> bool
     requires rows { length answers.now ≡ 208 }
     requires columns { length columns.old ≡ 182 }
-    ensures columns { marked (failed_of (map answer_word answers.now)) ≤ 16 → AreColumnsFrom (map answer_word answers.now) 0 columns.new }
-    ensures kept { IsTrue result → AreKeptFrom answers.now 0 columns.new }
+    ensures { AreColumnsAnswered answers.now columns.new result }
+{
+    match few_failed(answers) {
+        Some(failed) => answer_columns(&Po::new(), answers, &failed, 0, columns),
+        None => false,
+    }
+}
+
+/// Which rows failed, where these are no more than the second pass can correct: with more it isn't begun. It is public
+/// for dvd_par, whose second pass begins likewise.
+pub fn few_failed(answers: &[AnswerRow]) -> Option<[bool; 208]>
+    requires { length answers.now ≡ 208 }
+    ensures { MatchOption result (16 < marked (failed_of (map answer_word answers.now))) (λ failed. failed ≡ failed_of (map answer_word answers.now)) }
 {
     let mut failed = [false; 208];
     mark_failed(answers, &mut failed);
-    if !are_few(&failed) {
-        return false;
-    }
-    answer_columns(&Po::new(), answers, &failed, 0, columns)
+    if are_few(&failed) { Some(failed) } else { None }
 }
 
 /// Sets the stage of a block whose rows and columns are answered, as `two_pass` does: the block of these columns must

@@ -3,7 +3,7 @@
 ghost use Rattle.dvd_capture.specs.Rule.{HasBlock};
 ghost use Rattle.dvd_capture.specs.Works.{stage_of};
 ghost use Rattle.dvd_layout.specs.Place.{HasNumbers};
-ghost use Rattle.dvd_read.specs.Calls.{IsBlockRead};
+ghost use Rattle.dvd_read.specs.Calls.{AreBothAnswered, IsBlockRead};
 
 use crate::fixed::Fixed;
 use crate::frames::{FrameSource, sectors_of_block};
@@ -23,8 +23,19 @@ pub fn read_block(work: &mut Work, plan: &BlockPlan) -> Result<Fixed, Cause>
     requires numbers { HasNumbers plan.now }
     ensures { IsBlockRead work.old work.new plan.now result }
 {
-    // Whether the columns keep the rows that were answered: it spares a test, and says where rows can be read whole.
     let are_kept = answer_block(work);
+    end_reading(work, plan, are_kept)
+}
+
+/// Ends the reading of a block whose rows and columns are answered, as `read_block` does. Whether the columns keep the
+/// rows that were answered spares a test, and says where rows can be read whole; `false` may be said of any block.
+/// It is public for those who answer the pieces of both passes by several workers.
+#[tactic(auto, unfolding(dvd_decoding::specs::Reading::block_cause))]
+pub fn end_reading(work: &mut Work, plan: &BlockPlan, are_kept: bool) -> Result<Fixed, Cause>
+    requires answered { AreBothAnswered work.old are_kept }
+    requires numbers { HasNumbers plan.now }
+    ensures { IsBlockRead work.old work.new plan.now result }
+{
     match end_passes(work, are_kept) {
         Ok(fixed) => {
             // How many bytes differ from those received counts too: where none does, the frames are read from what was

@@ -238,8 +238,7 @@ fn answer_erased(
 }
 
 /// Notes which rows failed. They are the marks of all columns, so that a flag for each row is needed and not their
-/// number alone. All 208 flags are set anew. It is public, as `are_few` is, for dvd_par, whose second pass begins
-/// likewise.
+/// number alone. All 208 flags are set anew.
 pub fn mark_failed(answers: &[AnswerRow], failed: &mut [bool; 208])
     requires { length answers.now ≡ 208 }
     ensures { failed.new ≡ failed_of (map answer_word answers.now) }

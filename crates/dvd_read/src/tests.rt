@@ -1,23 +1,13 @@
-//! Worked values from outside the program. Helpers without a contract test what a call requires of them, a stage or a
-//! row of the block: where that doesn't hold, they do nothing or answer `None`. Products wrap where nothing bounds
-//! them.
+//! Worked values from outside the program. Blocks of which no frame is read are in dvd_par, by the plain call too.
+//! Helpers without a contract test what a call requires of them, a stage or a row of the block: where that doesn't hold,
+//! they do nothing or answer `None`. Products wrap where nothing bounds them.
 use crate::{Cause, Fixed, read_block, salvage, sectors, two_pass};
 use dvd_block::Block;
 use dvd_capture::{Stage, Work};
 use dvd_frame::{Area, Id, Rule, make_frame};
 use dvd_layout::{BlockPlan, Content};
-use gf_field::mul;
 use std::alloc::Global;
 use std::test::Fail;
-
-// The row codeword of the row code's generator polynomial: it is at the last eleven places, 171 to 181. C1 is its last
-// byte. Moved to the left by some places it is a codeword too.
-const GENERATOR: [u8; 11] = [
-    0x01, 0xD8, 0xC2, 0x9F, 0x6F, 0xC7, 0x5E, 0x5F, 0x71, 0x9D, 0xC1,
-];
-
-// The first nine of the 17 coefficients of the column code's generator polynomial.
-const COLUMN: [u8; 9] = [0x01, 0x3B, 0x0D, 0x68, 0xBD, 0x44, 0xD1, 0x1E, 0x08];
 
 const FIRST: BlockPlan = BlockPlan {
     first: 0x03_0000,
@@ -51,24 +41,6 @@ fn lose_rows(work: &mut Work, step: usize, count: usize) {
     for t in 0..count {
         lose_row(work, step.wrapping_mul(t));
     }
-}
-
-// Puts a multiple of the generator's codeword into row `i` from place `j` on.
-fn put_codeword(work: &mut Work, i: usize, j: usize, factor: u8) {
-    for (k, byte) in GENERATOR.iter().enumerate() {
-        if j <= 181 {
-            put(work, i, j + k, mul(factor, *byte), false);
-        }
-    }
-}
-
-// Eight rows of a block of zeros are those of another codeword: eight errors in each of columns 171 to 181.
-fn eight_rows(alloc: Global) -> Result<Work, Fail> {
-    let mut work = zero_block(alloc)?;
-    for t in 0..8usize {
-        put_codeword(&mut work, 20 * t, 171, 1);
-    }
-    Ok(work)
 }
 
 // What is answered of a received block that both passes fixed.
@@ -132,17 +104,6 @@ fn all_but(work: &Work, lost: [usize; 2]) -> bool {
 }
 
 #[test]
-fn sixteen_lost_rows_are_filled_and_seventeen_are_not(rt: HostRuntime) -> Result<(), Fail> {
-    let mut work = zero_block(rt.alloc())?;
-    lose_rows(&mut work, 13, 16);
-    assert_eq!(rt; decode(&mut work), fixed(0, 16));
-    let mut work = zero_block(rt.alloc())?;
-    lose_rows(&mut work, 12, 17);
-    assert_eq!(rt; decode(&mut work), Some(Err(Cause::Rows { failed: 17 })));
-    Ok(())
-}
-
-#[test]
 fn lost_rows_that_hold_noise_are_filled(rt: HostRuntime) -> Result<(), Fail> {
     let mut work = zero_block(rt.alloc())?;
     for t in 0..16usize {
@@ -151,33 +112,6 @@ fn lost_rows_that_hold_noise_are_filled(rt: HostRuntime) -> Result<(), Fail> {
         }
     }
     assert_eq!(rt; decode(&mut work), fixed(16 * 182, 16));
-    Ok(())
-}
-
-#[test]
-fn eight_rows_of_another_codeword_are_fixed(rt: HostRuntime) -> Result<(), Fail> {
-    let mut work = eight_rows(rt.alloc())?;
-    assert_eq!(rt; decode(&mut work), fixed(88, 0));
-
-    // A lost row more is too much for the columns.
-    let mut work = eight_rows(rt.alloc())?;
-    lose_row(&mut work, 207);
-    assert_eq!(rt; decode(&mut work), Some(Err(Cause::Column { j: 171 })));
-    Ok(())
-}
-
-// Column 171 has nine of the seventeen bytes of a column codeword, in rows 191 to 199, so that it is corrected to that
-// by eight more in rows 200 to 207. Each other column has eight bytes at most that aren't 0, and is near zeros. So row
-// 191, the first of the seventeen, has one byte that isn't 0, and is no codeword.
-// The ninth byte is the last of row 199, which begins at place 161, so that it adds none to columns 172 to 181.
-#[test]
-fn a_row_that_is_no_codeword_refuses_the_block(rt: HostRuntime) -> Result<(), Fail> {
-    let mut work = zero_block(rt.alloc())?;
-    for t in 0..8usize {
-        put_codeword(&mut work, 191 + t, 171, mul(COLUMN[t], 0xC1));
-    }
-    put_codeword(&mut work, 199, 161, 0x08);
-    assert_eq!(rt; decode(&mut work), Some(Err(Cause::Row { i: 191 })));
     Ok(())
 }
 

@@ -1,9 +1,9 @@
 -- The proof of `copy_kept` in src/frames.rt.
-use Rattle.std.proofs.Common.{◌≡◌, ◌∙◌, ◌*◌, ◌+◌, ℕ, take, refl, sym, ap, arith}
+use Rattle.std.proofs.Common.{◌*◌, ◌+◌, refl, arith}
 use Rattle.coding.specs.Product.{line}
 use Rattle.coding.specs.TwoPass.{from_columns}
 use Rattle.dvd_read.specs.Inner.Found.{words_of_columns}
-use Rattle.dvd_read.proofs.FrameFaults.{prefixes, prefixes-all, prefixes-next}
+use Rattle.dvd_read.proofs.FrameFaults.{prefixes-all, prefixes-next}
 use Rattle.dvd_read.proofs.frames.copy_kept.Goals as goal
 
 pub loop-q-init : goal.loop-q-init
@@ -19,8 +19,4 @@ loop-q-preserved c =
     }
 
 pub returns : goal.returns
-returns c =
-    let block = from_columns (words_of_columns c.args.columns.now) in
-    let last : c.loop-q.q ≡ 12 = omega arith in
-    prefixes-all block c.args.f c.loop-q.frame c.loop-q.invariant.size
-    (ap (λ (n : ℕ). take (172 * n) c.loop-q.frame) (sym last) ∙ c.loop-q.invariant.prefix ∙ ap (prefixes block c.args.f) last)
+returns c = prefixes-all (from_columns (words_of_columns c.args.columns.now)) c.args.f c.loop-q.q c.loop-q.frame c.loop-q.invariant.size (omega arith) c.loop-q.invariant.prefix

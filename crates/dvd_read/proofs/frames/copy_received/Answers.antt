@@ -1,7 +1,7 @@
 -- The proof of `copy_received` in src/frames.rt.
-use Rattle.std.proofs.Common.{◌≡◌, ◌∙◌, ◌+◌, ◌*◌, ℕ, List, take, refl, sym, ap, arith}
+use Rattle.std.proofs.Common.{◌+◌, ◌*◌, ℕ, List, refl, arith}
 use Rattle.coding.specs.Product.{line}
-use Rattle.dvd_read.proofs.FrameFaults.{prefixes, prefixes-all, prefixes-next, width-next}
+use Rattle.dvd_read.proofs.FrameFaults.{prefixes-all, prefixes-next, width-next}
 use Rattle.dvd_read.proofs.frames.copy_received.Goals as goal
 
 pub loop-q-init : goal.loop-q-init
@@ -18,11 +18,7 @@ loop-q-preserved c =
     }
 
 pub returns-clause-frame : goal.returns-clause-frame
-returns-clause-frame c =
-    let rows : List (List ℕ) = c.args.rows.now in
-    let last : c.loop-q.q ≡ 12 = omega arith in
-    prefixes-all rows c.args.f c.loop-q.frame c.loop-q.invariant.size
-    (ap (λ (n : ℕ). take (172 * n) c.loop-q.frame) (sym last) ∙ c.loop-q.invariant.prefix ∙ ap (prefixes rows c.args.f) last)
+returns-clause-frame c = prefixes-all c.args.rows.now c.args.f c.loop-q.q c.loop-q.frame c.loop-q.invariant.size (omega arith) c.loop-q.invariant.prefix
 
 pub returns-clause-widths : goal.returns-clause-widths
 returns-clause-widths c = λ q below. c.loop-q.invariant.widths q (omega arith)

@@ -1,9 +1,9 @@
 -- The proof of `copy_answered` in src/rescue.rt.
-use Rattle.std.proofs.Common.{◌≡◌, ◌∙◌, ◌+◌, ◌*◌, ℕ, length, map, not, take, refl, sym, ap, arith}
+use Rattle.std.proofs.Common.{◌≡◌, ◌∙◌, ◌+◌, ◌*◌, ℕ, length, map, not, refl, sym, ap, arith}
 use Rattle.std.proofs.lemmas.List.{length-map}
 use Rattle.dvd_read.specs.Parts.{answer_word}
 use Rattle.dvd_read.specs.Inner.Saved.{answered_block}
-use Rattle.dvd_read.proofs.FrameFaults.{prefixes, prefixes-all, prefixes-next}
+use Rattle.dvd_read.proofs.FrameFaults.{prefixes-all, prefixes-next}
 use Rattle.dvd_read.proofs.SavedFrames.{answered-line, failed-flag, lacks-at, none-more}
 use Rattle.dvd_read.proofs.rescue.copy_answered.Goals as goal
 
@@ -34,8 +34,5 @@ loop-q-preserved c =
 
 pub returns-clause-frame : goal.returns-clause-frame
 returns-clause-frame c =
-    let block = answered_block (map answer_word c.args.answers.now) in
-    let last : c.loop-q.q ≡ 12 = omega arith in
     λ yes.
-    prefixes-all block c.args.f c.loop-q.frame c.loop-q.invariant.size
-    (ap (λ (n : ℕ). take (172 * n) c.loop-q.frame) (sym last) ∙ c.loop-q.invariant.prefix ∙ ap (prefixes block c.args.f) last)
+    prefixes-all (answered_block (map answer_word c.args.answers.now)) c.args.f c.loop-q.q c.loop-q.frame c.loop-q.invariant.size (omega arith) c.loop-q.invariant.prefix
