@@ -1,9 +1,8 @@
 -- A marked text as its recorded rows are put one after the other.
-use Rattle.std.proofs.Common.{◌≡◌, ℕ, ◌+◌, ◌<◌, List, [], ◌++◌, length, get_or, map, sym, ◌∙◌, ap, arith}
+use Rattle.std.proofs.Common.{◌≡◌, ℕ, ◌<◌, List, [], length, get_or, map, sym, ◌∙◌, ap, arith}
 use Rattle.std.proofs.lemmas.List.{get_or-map}
 use Rattle.coding.specs.Product.{line}
 use Rattle.coding.specs.Recording.{row_at}
-use Rattle.dvd_block.proofs.Recorded.{recorded, recorded-more}
 use Rattle.dvd_merge.specs.Join.{Table}
 use Rattle.dvd_merge.specs.MarkedText.{marked_row}
 
@@ -12,9 +11,3 @@ pub record_is : (table : Table) (m i : ℕ) (bytes : List ℕ) → length table 
     → bytes ≡ marked_row (get_or table i []) → bytes ≡ line (map marked_row table) (row_at m)
 record_is table m i bytes height below is filled =
     filled ∙ sym (get_or-map marked_row table i [] [] (omega (arith, height, below))) ∙ ap (line (map marked_row table)) is
-
--- one row more
-pub record_more : (rows : List (List ℕ)) (m : ℕ) (bytes : List ℕ) → bytes ≡ line rows (row_at m) → recorded 0 m rows ++ bytes ≡ recorded 0 (m + 1) rows
-record_more rows m bytes is =
-    let same : 0 + m ≡ m = omega arith in
-    ap (λ l. recorded 0 m rows ++ l) is ∙ sym (recorded-more 0 m rows ∙ ap (λ k. recorded 0 m rows ++ line rows (row_at k)) same)
