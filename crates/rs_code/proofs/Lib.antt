@@ -1,4 +1,5 @@
 -- Why the contracts hold: lemmas on Reed-Solomon codes, their generators, syndromes and distances.
+pub mod Chunks
 pub mod Codewords
 pub mod Distance
 pub mod Generator

@@ -1,16 +1,17 @@
 -- Four steps of the division in one: each of the four bytes that leave the register has a table of its own.
-use Rattle.std.proofs.Common.{◌≡◌, ℕ, zero, suc, ◌+◌, ◌*◌, ◌/◌, ◌%◌, ◌^◌, ◌<◌, ◌≤◌, List, [], ◌∷◌, ◌++◌, length, get_or, take, drop, drop-cons, drop_of_length-le, add-one, All, refl, sym, ap, ◌∙◌, arith, append_assoc}
+use Rattle.std.proofs.Common.{◌≡◌, ℕ, suc, ◌+◌, ◌*◌, ◌/◌, ◌%◌, ◌^◌, ◌<◌, ◌≤◌, List, [], ◌∷◌, ◌++◌, length, get_or, take, drop, drop-cons, drop_of_length-le, add-one, All, refl, sym, ap, ◌∙◌, arith, append_assoc}
 use Rattle.std.specs.Int.{to_be_bytes, w32}
 use Rattle.std.specs.List.{concat}
 use Rattle.std.specs.Simd.{first_chunks}
 use Rattle.std.proofs.lemmas.Nat.{xor_lt}
-use Rattle.std.proofs.lemmas.List.{drop-drop, take-append-drop, append-nil}
+use Rattle.std.proofs.lemmas.List.{append-nil}
 use Rattle.std.proofs.lemmas.List.Elements.{All-head, All-tail}
 use Rattle.coding.specs.Field.{plus}
 use Rattle.coding.specs.Words.{IsByte}
 use Rattle.gf_field.proofs.FieldLaws.{plus-byte, plus-assoc}
 use Rattle.rs_code.specs.Inner.Polynomials.{IsRemainder}
 use Rattle.rs_code.specs.Inner.Registers.{register_bytes, HasMultiples, AreTables, after_byte, after_bytes}
+use Rattle.rs_code.proofs.Chunks.{chunks_joined}
 use Rattle.rs_code.proofs.Registers.{HoldsRemainder, after_byte-sum, after_byte-word, HoldsRemainder-next, HoldsRemainder-start}
 use Rattle.rs_code.proofs.Ring.{ring}
 
@@ -219,17 +220,6 @@ pub words_done : (table : List ℕ) (words : List (List ℕ)) (start now i : ℕ
 words_done table words start now i rest past before =
     sym (ap (λ l. after_bytes table now (concat l ++ rest)) (drop_of_length-le words past)) ∙ before
 
--- the whole words and the bytes after them, joined, are all the bytes
-pub words_joined : (count : ℕ) (bytes : List ℕ) → concat (first_chunks 4 count bytes) ++ drop (count * 4) bytes ≡ bytes
-words_joined zero bytes = refl
-words_joined (suc count) bytes =
-    let more : suc count * 4 ≡ 4 + count * 4 = omega arith in
-    ap (λ (n : ℕ). (take 4 bytes ++ concat (first_chunks 4 count (drop 4 bytes))) ++ drop n bytes) more
-    ∙ append_assoc (take 4 bytes) (concat (first_chunks 4 count (drop 4 bytes))) (drop (4 + count * 4) bytes)
-    ∙ ap (λ (l : List ℕ). take 4 bytes ++ (concat (first_chunks 4 count (drop 4 bytes)) ++ l)) (sym (drop-drop (count * 4) 4 bytes))
-    ∙ ap (λ (l : List ℕ). take 4 bytes ++ l) (words_joined count (drop 4 bytes))
-    ∙ take-append-drop 4 bytes
-
 -- the whole words and the bytes after them are the message
 pub message_read : (table message others : List ℕ) (words : List (List ℕ)) (middle register : ℕ)
     → words ≡ first_chunks 4 (length message / 4) message → others ≡ drop (length message / 4 * 4) message
@@ -238,7 +228,7 @@ pub message_read : (table message others : List ℕ) (words : List (List ℕ)) (
     → register ≡ after_bytes table 0 message
 unfolding after_bytes
 message_read table message others words middle register are_words are_others prefix back =
-    let joined : concat words ++ (others ++ []) ≡ message = rw (append-nil others, are_words, are_others) (words_joined (length message / 4) message) in
+    let joined : concat words ++ (others ++ []) ≡ message = rw (append-nil others, are_words, are_others) (chunks_joined 4 (length message / 4) message) in
     back ∙ prefix ∙ ap (after_bytes table 0) joined
 
 -- what is written of the register after a message is its remainder

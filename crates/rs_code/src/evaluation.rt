@@ -35,11 +35,11 @@ pub fn is_zero(word: &[u8]) -> bool
     true
 }
 
-/// The value of a word of at most 33 bytes at alpha to a power below 255, term by term. A term's logarithm is that of
-/// its byte plus a multiple of the exponent, so that no term depends on another. Logarithms and multiples are summed up
-/// in 32 bits: with so few bytes no sum is too great. `syndromes` has 32 at most; 33, the coefficients of a polynomial
-/// of degree 32, is arbitrary, and many more would do. It is public, but no other crate calls it.
-pub fn value_at(word: &[u8], exponent: u32) -> u8
+// The value of a word of at most 33 bytes at alpha to a power below 255, term by term. A term's logarithm is that of
+// its byte plus a multiple of the exponent, so that no term depends on another. Logarithms and multiples are summed up
+// in 32 bits: with so few bytes no sum is too great. `syndromes` has 32 at most; 33, the coefficients of a polynomial
+// of degree 32, is arbitrary, and many more would do.
+fn value_at(word: &[u8], exponent: u32) -> u8
     requires few { length word.now ≤ 33 }
     requires below { exponent < 255 }
     ensures { result ≡ value word.now (power alpha exponent) }

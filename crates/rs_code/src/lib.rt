@@ -4,7 +4,7 @@
 //! - [`code`]: a code, with its encoder, its syndromes and its test.
 //! - `division`: the generator polynomial, and the division by it.
 //! - `register`: the division where the remainder fits one number of 128 bits.
-//! - `tables`: the multiples of two generators, for that division.
+//! - `tables`: the multiples of two generators, for that division, and [`sums`], by which tables are written.
 //! - `evaluation`: the values of a word at powers of alpha.
 //! - [`laws`]: what holds of every code, as contracts alone.
 #![tactic(auto)]
@@ -19,4 +19,3 @@ mod tables;
 mod tests;
 
 pub use code::{Code, Ied, Pi, Po};
-pub use evaluation::value_at;

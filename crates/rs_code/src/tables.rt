@@ -5,11 +5,16 @@
 //! and 3 that is divided on for one, two and three zero bytes more, so that four bytes are read in one step. 128 bits
 //! hold the sixteen bytes of the longer remainder.
 
-// The 256 sums of eight numbers: at each byte, the sum of those whose bits it has, the lowest bit first. It begins with
-// 0 alone, and each number doubles the list: the sums so far, and then the same with that number added.
+/// The sums of all choices of numbers, in the order of the bytes whose bits choose them, the lowest bit for the first
+/// number: so `sums!([0] ..)` of eight numbers, those of the bytes 1, 2, 4 to 128, is a table of 256. It begins with 0
+/// alone, and each number doubles the list: the sums so far, and then the same with that number added. It is public,
+/// as other crates have tables of linear maps too.
+#[macro_export]
 macro_rules! sums {
     ([$($sum:expr),*]) => { [$($sum),*] };
-    ([$($sum:expr),*] $number:literal $($more:literal)*) => { sums!([$($sum,)* $($sum ^ $number),*] $($more)*) };
+    ([$($sum:expr),*] $number:literal $($more:literal)*) => {
+        $crate::sums!([$($sum,)* $($sum ^ $number),*] $($more)*)
+    };
 }
 
 /// The generator with ten roots times each byte, and what is left of each of these products one, two and three bytes
