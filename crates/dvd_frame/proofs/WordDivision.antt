@@ -1,13 +1,12 @@
 -- Division of eight bytes at once: what it leaves of each, with zeros in place of the others, is added up.
-use Rattle.std.proofs.Common.{◌≡◌, ℕ, zero, suc, ◌+◌, ◌*◌, ◌<◌, ◌≤◌, List, [], ◌∷◌, ◌++◌, length, get_or, take, drop, All, cond, eqb, refl, sym, ◌∙◌, ap, arith}
+use Rattle.std.proofs.Common.{◌≡◌, ℕ, zero, suc, ◌+◌, ◌*◌, ◌<◌, ◌≤◌, List, [], ◌∷◌, ◌++◌, length, get_or, All, cond, eqb, refl, sym, ◌∙◌, ap, arith}
 use Rattle.std.specs.Prelude.{bit_xor, replicate}
 use Rattle.std.specs.Int.Bits.{xor_zero_r, xor_assoc}
-use Rattle.std.specs.List.{concat}
-use Rattle.std.specs.Simd.{first_chunks}
-use Rattle.std.proofs.lemmas.List.{length-append, length-replicate, append_assoc, drop-drop, take-append-drop}
+use Rattle.std.proofs.lemmas.List.{length-append, length-replicate, append_assoc}
 use Rattle.std.proofs.lemmas.List.Elements.{All-append, All-replicate, All-tail}
 use Rattle.coding.specs.BitDivision.{plus_prefix, remainder_by}
 use Rattle.gf_field.proofs.BitDivision.{length-plus_prefix, plus_prefix_twice, remainder_by_twice}
+use Rattle.rs_code.proofs.Chunks.{bytes_at_places}
 use Rattle.coding.specs.Bits.{bits, bits_of}
 use Rattle.dvd_frame.specs.Edc.{remainder, divisor}
 use Rattle.dvd_frame.specs.Inner.Registers.{divided_from, byte_remainder}
@@ -163,16 +162,7 @@ word_read register next word bytes size is =
 eight_bytes : (word : List ℕ) → length word ≡ 8
     → get_or word 0 0 ∷ get_or word 1 0 ∷ get_or word 2 0 ∷ get_or word 3 0 ∷ get_or word 4 0 ∷ get_or word 5 0 ∷ get_or word 6 0 ∷ get_or word 7 0 ∷ []
     ≡ word
-eight_bytes [] size = absurd (omega arith)
-eight_bytes (a ∷ []) size = absurd (omega arith)
-eight_bytes (a ∷ b ∷ []) size = absurd (omega arith)
-eight_bytes (a ∷ b ∷ c ∷ []) size = absurd (omega arith)
-eight_bytes (a ∷ b ∷ c ∷ d ∷ []) size = absurd (omega arith)
-eight_bytes (a ∷ b ∷ c ∷ d ∷ e ∷ []) size = absurd (omega arith)
-eight_bytes (a ∷ b ∷ c ∷ d ∷ e ∷ f ∷ []) size = absurd (omega arith)
-eight_bytes (a ∷ b ∷ c ∷ d ∷ e ∷ f ∷ g ∷ []) size = absurd (omega arith)
-eight_bytes (a ∷ b ∷ c ∷ d ∷ e ∷ f ∷ g ∷ h ∷ []) size = refl
-eight_bytes (a ∷ b ∷ c ∷ d ∷ e ∷ f ∷ g ∷ h ∷ i ∷ rest) size = absurd (omega arith)
+eight_bytes word size = bytes_at_places 8 word size
 
 -- eight bytes, to the first four of which the register's are added
 pub word_met : (register : ℕ) (word four : List ℕ) → length word ≡ 8 → four ≡ word_bytes register
@@ -208,14 +198,3 @@ word_remainder word a b c d e f g h size a_is b_is c_is d_is e_is f_is g_is h_is
     ap (bits 32) sum
     ∙ bits-remainders_sum eight
     ∙ ap (λ (w : List ℕ). remainder 64 (bits_of w ++ replicate 32 0)) (eight_bytes word size)
-
--- the whole words and the bytes after them, joined, are all the bytes
-pub words_joined : (count : ℕ) (bytes : List ℕ) → concat (first_chunks 8 count bytes) ++ drop (count * 8) bytes ≡ bytes
-words_joined zero bytes = refl
-words_joined (suc count) bytes =
-    let more : suc count * 8 ≡ 8 + count * 8 = omega arith in
-    ap (λ (n : ℕ). (take 8 bytes ++ concat (first_chunks 8 count (drop 8 bytes))) ++ drop n bytes) more
-    ∙ append_assoc (take 8 bytes) (concat (first_chunks 8 count (drop 8 bytes))) (drop (8 + count * 8) bytes)
-    ∙ ap (λ (l : List ℕ). take 8 bytes ++ (concat (first_chunks 8 count (drop 8 bytes)) ++ l)) (sym (drop-drop (count * 8) 8 bytes))
-    ∙ ap (λ (l : List ℕ). take 8 bytes ++ l) (words_joined count (drop 8 bytes))
-    ∙ take-append-drop 8 bytes

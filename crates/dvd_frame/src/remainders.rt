@@ -7,12 +7,7 @@ ghost use Rattle.coding.specs.Bits.{bits, bits_of};
 ghost use Rattle.dvd_frame.specs.Edc.{remainder};
 ghost use Rattle.dvd_frame.specs.Inner.Registers.{byte_remainder};
 
-// The sums of all choices of numbers, in the order of the bytes whose bits choose them: the first number for b0, and so
-// on. So eight numbers, those of the bytes 1, 2, 4 to 128, make a table of 256.
-macro_rules! sums {
-    ([$($sum:expr),*]) => { [$($sum),*] };
-    ([$($sum:expr),*] $number:literal $($more:literal)*) => { sums!([$($sum,)* $($sum ^ $number),*] $($more)*) };
-}
+use rs_code::sums;
 
 /// What division by x^32 + x^31 + x^4 + 1 leaves of each byte: table k for the byte followed by k bytes of zeros and
 /// then 32 zeros. Division is linear: what it leaves of a sum of bytes is the sum of what it leaves of each.
