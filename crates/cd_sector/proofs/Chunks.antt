@@ -1,14 +1,14 @@
 -- Sixteen bytes read into the register at once: what is left of each, with the register's own bytes added to the first
 -- four, is added up.
-use Rattle.std.proofs.Common.{◌≡◌, ℕ, zero, suc, ◌+◌, ◌*◌, ◌/◌, ◌%◌, ◌^◌, ◌<◌, ◌≤◌, List, [], ◌∷◌, ◌++◌, length, get_or, take, drop, refl, sym, ◌∙◌, ap, ap₂, append_assoc, zero-add, add-one, arith}
+use Rattle.std.proofs.Common.{◌≡◌, ℕ, zero, suc, ◌+◌, ◌*◌, ◌/◌, ◌%◌, ◌^◌, ◌<◌, ◌≤◌, List, [], ◌∷◌, ◌++◌, length, get_or, drop, refl, sym, ◌∙◌, ap, ap₂, zero-add, add-one, arith}
 use Rattle.std.specs.Prelude.{bit_xor}
 use Rattle.std.specs.Int.{to_le_bytes, w32}
 use Rattle.std.specs.Int.Bits.{xor_zero_r, xor_assoc}
 use Rattle.std.specs.List.{concat}
-use Rattle.std.specs.Simd.{first_chunks}
 use Rattle.std.proofs.lemmas.Nat.{xor_comm}
 use Rattle.std.proofs.Math.Seq.{drop-cons}
-use Rattle.std.proofs.lemmas.List.{drop_all, drop-drop, take-append-drop}
+use Rattle.std.proofs.lemmas.List.{drop_all}
+use Rattle.rs_code.proofs.Chunks.{bytes_at_places}
 use Rattle.cd_sector.specs.Inner.Register.{stepped, after_steps, after_reading, after_word}
 use Rattle.cd_sector.proofs.Division.{after_reading-append}
 use Rattle.cd_sector.proofs.Steps.{after_steps_sum, byte_read}
@@ -103,24 +103,7 @@ reading_sixteen a b c d e f g h i j k l m n o p register fits =
 -- sixteen bytes, one by one
 sixteen_bytes : (chunk : List ℕ) → length chunk ≡ 16
     → get_or chunk 0 0 ∷ get_or chunk 1 0 ∷ get_or chunk 2 0 ∷ get_or chunk 3 0 ∷ get_or chunk 4 0 ∷ get_or chunk 5 0 ∷ get_or chunk 6 0 ∷ get_or chunk 7 0 ∷ get_or chunk 8 0 ∷ get_or chunk 9 0 ∷ get_or chunk 10 0 ∷ get_or chunk 11 0 ∷ get_or chunk 12 0 ∷ get_or chunk 13 0 ∷ get_or chunk 14 0 ∷ get_or chunk 15 0 ∷ [] ≡ chunk
-sixteen_bytes [] size = absurd (omega arith)
-sixteen_bytes (a ∷ []) size = absurd (omega arith)
-sixteen_bytes (a ∷ b ∷ []) size = absurd (omega arith)
-sixteen_bytes (a ∷ b ∷ c ∷ []) size = absurd (omega arith)
-sixteen_bytes (a ∷ b ∷ c ∷ d ∷ []) size = absurd (omega arith)
-sixteen_bytes (a ∷ b ∷ c ∷ d ∷ e ∷ []) size = absurd (omega arith)
-sixteen_bytes (a ∷ b ∷ c ∷ d ∷ e ∷ f ∷ []) size = absurd (omega arith)
-sixteen_bytes (a ∷ b ∷ c ∷ d ∷ e ∷ f ∷ g ∷ []) size = absurd (omega arith)
-sixteen_bytes (a ∷ b ∷ c ∷ d ∷ e ∷ f ∷ g ∷ h ∷ []) size = absurd (omega arith)
-sixteen_bytes (a ∷ b ∷ c ∷ d ∷ e ∷ f ∷ g ∷ h ∷ i ∷ []) size = absurd (omega arith)
-sixteen_bytes (a ∷ b ∷ c ∷ d ∷ e ∷ f ∷ g ∷ h ∷ i ∷ j ∷ []) size = absurd (omega arith)
-sixteen_bytes (a ∷ b ∷ c ∷ d ∷ e ∷ f ∷ g ∷ h ∷ i ∷ j ∷ k ∷ []) size = absurd (omega arith)
-sixteen_bytes (a ∷ b ∷ c ∷ d ∷ e ∷ f ∷ g ∷ h ∷ i ∷ j ∷ k ∷ l ∷ []) size = absurd (omega arith)
-sixteen_bytes (a ∷ b ∷ c ∷ d ∷ e ∷ f ∷ g ∷ h ∷ i ∷ j ∷ k ∷ l ∷ m ∷ []) size = absurd (omega arith)
-sixteen_bytes (a ∷ b ∷ c ∷ d ∷ e ∷ f ∷ g ∷ h ∷ i ∷ j ∷ k ∷ l ∷ m ∷ n ∷ []) size = absurd (omega arith)
-sixteen_bytes (a ∷ b ∷ c ∷ d ∷ e ∷ f ∷ g ∷ h ∷ i ∷ j ∷ k ∷ l ∷ m ∷ n ∷ o ∷ []) size = absurd (omega arith)
-sixteen_bytes (a ∷ b ∷ c ∷ d ∷ e ∷ f ∷ g ∷ h ∷ i ∷ j ∷ k ∷ l ∷ m ∷ n ∷ o ∷ p ∷ []) size = refl
-sixteen_bytes (a ∷ b ∷ c ∷ d ∷ e ∷ f ∷ g ∷ h ∷ i ∷ j ∷ k ∷ l ∷ m ∷ n ∷ o ∷ p ∷ q ∷ rest) size = absurd (omega arith)
+sixteen_bytes chunk size = bytes_at_places 16 chunk size
 
 -- the register's bytes, one by one
 register_bytes : (register : ℕ) (four : List ℕ) → four ≡ to_le_bytes w32 register
@@ -143,17 +126,6 @@ chunk_read register chunk four fits size is =
     (reading_sixteen (get_or chunk 0 0) (get_or chunk 1 0) (get_or chunk 2 0) (get_or chunk 3 0) (get_or chunk 4 0) (get_or chunk 5 0) (get_or chunk 6 0) (get_or chunk 7 0) (get_or chunk 8 0) (get_or chunk 9 0) (get_or chunk 10 0) (get_or chunk 11 0) (get_or chunk 12 0) (get_or chunk 13 0) (get_or chunk 14 0) (get_or chunk 15 0)
     register fits
     ∙ ap (λ (l : List ℕ). after_reading l register) (sixteen_bytes chunk size))
-
--- the whole chunks and the bytes after them, joined, are all the bytes
-pub chunks_joined : (count : ℕ) (bytes : List ℕ) → concat (first_chunks 16 count bytes) ++ drop (count * 16) bytes ≡ bytes
-chunks_joined zero bytes = refl
-chunks_joined (suc count) bytes =
-    let more : suc count * 16 ≡ 16 + count * 16 = omega arith in
-    ap (λ (n : ℕ). (take 16 bytes ++ concat (first_chunks 16 count (drop 16 bytes))) ++ drop n bytes) more
-    ∙ append_assoc (take 16 bytes) (concat (first_chunks 16 count (drop 16 bytes))) (drop (16 + count * 16) bytes)
-    ∙ ap (λ (l : List ℕ). take 16 bytes ++ (concat (first_chunks 16 count (drop 16 bytes)) ++ l)) (sym (drop-drop (count * 16) 16 bytes))
-    ∙ ap (λ (l : List ℕ). take 16 bytes ++ l) (chunks_joined count (drop 16 bytes))
-    ∙ take-append-drop 16 bytes
 
 -- the next chunk of a list of chunks
 pub chunks-next : (chunks : List (List ℕ)) (i register : ℕ) → i < length chunks

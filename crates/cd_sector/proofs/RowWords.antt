@@ -1,6 +1,6 @@
 -- The words of a sector as columns of rows: where the bytes of chunks are (chunk_place), the words that columns are
 -- (column_word), right words as columns that are codewords (column_right), and the rows of diagonals (twice_place,
--- pair_set, diagonal_place, own_place, last_rows). A part that was put (put_below, put_at), and words whose last two
+-- pair_set, diagonal_place, own_place, last_rows). A part that was put (put_below, put_two_below, put_at), and words whose last two
 -- bytes were (encoded_word).
 use Rattle.std.proofs.Common.{◌≡◌, ◌↔◌, ℕ, zero, suc, ◌+◌, ◌-◌, ◌*◌, ◌/◌, ◌%◌, ◌<◌, ◌≤◌, List, [], ◌∷◌, length, get_or, set, take, drop, ◌++◌, inl, inr, sym, ◌∙◌, ap, get_or-take, length-append, arith}
 use Rattle.std.specs.Simd.{first_chunks}
@@ -99,6 +99,13 @@ put_below old new part from at put inside below =
     ∙ ap (λ (l : List ℕ). get_or l at 0) put
     ∙ get_or_append_left (take from old) part 0 at (omega (arith, length-take-le from old inside))
     ∙ get_or-take from old at 0 below
+
+-- likewise of two parts, the second after the first
+pub put_two_below : (old middle new first second : List ℕ) (from next at : ℕ) → take (from + length first) middle ≡ take from old ++ first
+    → take (next + length second) new ≡ take next middle ++ second → from ≤ length old → next ≤ length middle → from ≤ next → at < from
+    → get_or new at 0 ≡ get_or old at 0
+put_two_below old middle new first second from next at put_first put_second inside inside_middle order below =
+    put_below middle new second next at put_second inside_middle (omega arith) ∙ put_below old middle first from at put_first inside below
 
 -- and the part is there
 pub put_at : (old new part : List ℕ) (from j : ℕ) → take (from + length part) new ≡ take from old ++ part → from ≤ length old → j < length part

@@ -3,13 +3,10 @@
 //! a step shifts it down, and the byte that leaves is the lowest one. In contracts `after_steps n` is a register after
 //! n steps, of a bit each, and `after_reading` one after bytes, by eight steps for each.
 ghost use Rattle.std.specs.Prelude.{◌≡◌, ◌++◌, bit_xor};
-ghost use Rattle.std.specs.List.{concat};
 ghost use Rattle.cd_sector.specs.Edc.{cd_edc_of};
 ghost use Rattle.cd_sector.specs.Inner.Register.{after_reading, after_steps};
 
-use crate::table::{
-    remainder_of, remainder_of_first, remainder_of_fourth, remainder_of_second, remainder_of_third,
-};
+use crate::table::{remainder_of, remainder_of_word};
 
 /// The EDC of a list of bytes of any length: the remainder of its bits, the least significant of each byte first,
 /// by (x^16 + x^15 + x^2 + 1) (x^16 + x^2 + x + 1). It is public for the C library.
@@ -34,20 +31,12 @@ fn with_bytes(register: u32, bytes: &[u8]) -> u32
     ensures { result ≡ after_reading bytes.now register }
 {
     let (chunks, others) = bytes.as_chunks::<16>();
-    let mut next = with_chunks(register, chunks);
-    for byte in others {
-        next = with_byte(next, *byte);
-    }
-    next
-}
-
-// The register after these chunks of sixteen bytes are read.
-fn with_chunks(register: u32, chunks: &[[u8; 16]]) -> u32
-    ensures { result ≡ after_reading (concat chunks.now) register }
-{
     let mut next = register;
     for chunk in chunks {
         next = with_chunk(next, *chunk);
+    }
+    for byte in others {
+        next = with_byte(next, *byte);
     }
     next
 }
@@ -58,14 +47,17 @@ fn with_chunk(register: u32, chunk: [u8; 16]) -> u32
     ensures { result ≡ after_reading chunk register }
 {
     let [first, second, third, fourth] = register.to_le_bytes();
-    let prefix = remainder_of_first([
-        chunk[0] ^ first,
-        chunk[1] ^ second,
-        chunk[2] ^ third,
-        chunk[3] ^ fourth,
-    ]) ^ remainder_of_second([chunk[4], chunk[5], chunk[6], chunk[7]]);
-    let back = remainder_of_third([chunk[8], chunk[9], chunk[10], chunk[11]])
-        ^ remainder_of_fourth([chunk[12], chunk[13], chunk[14], chunk[15]]);
+    let prefix = remainder_of_word(
+        12,
+        [
+            chunk[0] ^ first,
+            chunk[1] ^ second,
+            chunk[2] ^ third,
+            chunk[3] ^ fourth,
+        ],
+    ) ^ remainder_of_word(8, [chunk[4], chunk[5], chunk[6], chunk[7]]);
+    let back = remainder_of_word(4, [chunk[8], chunk[9], chunk[10], chunk[11]])
+        ^ remainder_of_word(0, [chunk[12], chunk[13], chunk[14], chunk[15]]);
     prefix ^ back
 }
 

@@ -1,6 +1,5 @@
 -- The register of the EDC (ours): 32 bits in one word, that of the highest power lowest.
-use Rattle.std.specs.Prelude.{ℕ, zero, suc, ◌+◌, ◌/◌, ◌%◌, ◌==◌, bit_xor, slice_index, if◌then◌else◌, List, [], ◌∷◌, map}
-use Rattle.std.specs.List.{range_with_len}
+use Rattle.std.specs.Prelude.{ℕ, zero, suc, ◌+◌, ◌/◌, ◌%◌, ◌==◌, bit_xor, slice_index, if◌then◌else◌, List, [], ◌∷◌}
 
 -- the register after one step of the division, once the next bit is added to it
 unfoldable pub stepped : ℕ → ℕ
@@ -21,11 +20,3 @@ abbrev pub after_word : ℕ → List ℕ → ℕ
 after_word n word =
     bit_xor (bit_xor (after_steps (24 + n) (slice_index word 0)) (after_steps (16 + n) (slice_index word 1)))
     (bit_xor (after_steps (8 + n) (slice_index word 2)) (after_steps n (slice_index word 3)))
-
--- what n steps leave of each byte in a register of zeros
-abbrev pub table_after : ℕ → List ℕ
-table_after n = map (after_steps n) (range_with_len 0 256)
-
--- likewise for n steps, and for eight, sixteen and twenty-four more
-abbrev pub tables_from : ℕ → List (List ℕ)
-tables_from n = table_after n ∷ table_after (8 + n) ∷ table_after (16 + n) ∷ table_after (24 + n) ∷ []

@@ -1,5 +1,5 @@
 -- The proof of `values_at` in src/columns.rt.
-use Rattle.std.proofs.Common.{◌≡◌, ℕ, ◌+◌, ◌<◌, List, [], get_or, refl, sym, ap, ap₂, subst, below_more, ◌∙◌, arith}
+use Rattle.std.proofs.Common.{◌≡◌, ℕ, ◌+◌, ◌<◌, ◌≤◌, List, [], length, take, get_or, refl, sym, ap, ap₂, subst, below_more, ◌∙◌, arith}
 use Rattle.std.proofs.lemmas.List.{get_or_default, take_all}
 use Rattle.std.proofs.lemmas.List.Elements.{All-from_get_or}
 use Rattle.std.proofs.lemmas.Simd.{get_or-replicate}
@@ -7,6 +7,7 @@ use Rattle.coding.specs.Field.{alpha, plus, product}
 use Rattle.coding.specs.Words.{IsByte, value}
 use Rattle.coding.specs.Rows.{place, column}
 use Rattle.rs_code.proofs.Values.{value-nil}
+use Rattle.rs_lanes.specs.Inner.Lanes.{HasLanes}
 use Rattle.rs_lanes.proofs.ColumnLemmas.{length-column, get_or-column}
 use Rattle.cd_sector.proofs.ColumnWords.{sum-more, alpha-more}
 use Rattle.cd_sector.proofs.columns.values_at.Goals as goal
@@ -57,20 +58,17 @@ returns-clause-bytes g c = λ j below.
     (λ i inside. subst (λ b. b < 256) (sym (get_or-column c.args.rows.now (c.args.at + j) i))
     (c.loop-m.invariant.bytes i j (omega (arith, length-column c.args.rows.now (c.args.at + j))) below))
 
-pub returns-clause-sums : goal.returns-clause-sums
-returns-clause-sums g c = record {
-  size = c.loop-m.invariant.sums.size;
+-- once all rows were read, the values are those of the whole columns
+whole : (rows : List (List ℕ)) (at m point : ℕ) (lanes : List ℕ) → length rows ≤ m
+    → HasLanes lanes (λ j. value (take m (column rows (at + j))) point) → HasLanes lanes (λ j. value (column rows (at + j)) point)
+whole rows at m point lanes past has = record {
+  size = has.size;
   each = λ j below.
-      let word : List ℕ = column c.args.rows.now (c.args.at + j) in
-      c.loop-m.invariant.sums.each j below
-      ∙ ap (λ (l : List ℕ). value l 1) (take_all c.loop-m.m word (omega (arith, length-column c.args.rows.now (c.args.at + j))));
+      has.each j below ∙ ap (λ (l : List ℕ). value l point) (take_all m (column rows (at + j)) (omega (arith, length-column rows (at + j))));
 }
 
+pub returns-clause-sums : goal.returns-clause-sums
+returns-clause-sums g c = whole c.args.rows.now c.args.at c.loop-m.m 1 c.loop-m.sum (omega arith) c.loop-m.invariant.sums
+
 pub returns-clause-values : goal.returns-clause-values
-returns-clause-values g c = record {
-  size = c.loop-m.invariant.values.size;
-  each = λ j below.
-      let word : List ℕ = column c.args.rows.now (c.args.at + j) in
-      c.loop-m.invariant.values.each j below
-      ∙ ap (λ (l : List ℕ). value l alpha) (take_all c.loop-m.m word (omega (arith, length-column c.args.rows.now (c.args.at + j))));
-}
+returns-clause-values g c = whole c.args.rows.now c.args.at c.loop-m.m alpha c.loop-m.value (omega arith) c.loop-m.invariant.values

@@ -6,5 +6,5 @@ use Rattle.cd_sector.proofs.edc.with_chunk.Goals as goal
 
 pub returns : goal.returns
 returns c =
-    ap₂ bit_xor (ap₂ bit_xor c.remainder_of_first.ensures c.remainder_of_second.ensures) (ap₂ bit_xor c.remainder_of_third.ensures c.remainder_of_fourth.ensures)
+    ap₂ bit_xor (ap₂ bit_xor c.remainder_of_word.ensures c.remainder_of_word-2.ensures) (ap₂ bit_xor c.remainder_of_word-3.ensures c.remainder_of_word-4.ensures)
     ∙ chunk_read c.args.register c.args.chunk c.to_le_bytes.result (omega arith) (omega arith) c.to_le_bytes.ensures

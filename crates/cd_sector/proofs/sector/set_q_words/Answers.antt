@@ -4,7 +4,7 @@ use Rattle.std.proofs.lemmas.List.{length-take-le}
 use Rattle.coding.specs.Rows.{line}
 use Rattle.cd_sector.specs.Words.{sector_place}
 use Rattle.cd_sector.proofs.Places.{word_size-q, sector_place-own}
-use Rattle.cd_sector.proofs.RowWords.{put_below, put_at, encoded_word}
+use Rattle.cd_sector.proofs.RowWords.{put_below, put_two_below, put_at, encoded_word}
 use Rattle.cd_sector.proofs.Spread.{covered-q}
 use Rattle.cd_sector.proofs.sector.set_q_words.Goals as goal
 
@@ -13,9 +13,8 @@ slice_bounds-parity-end-2 c = omega (arith, length-take-le 43 c.q_rows.result (o
 
 pub returns-clause-kept : goal.returns-clause-kept
 returns-clause-kept c = λ at below.
-    let middle : List ℕ = c.put.new.out in
-    put_below middle c.put-2.new.out (line c.parity.result 1) 2300 at c.put-2.ensures (omega arith) (omega arith)
-    ∙ put_below c.args.sector.now middle (line c.parity.result 0) 2248 at c.put.ensures (omega arith) below
+    put_two_below c.args.sector.now c.put.new.out c.put-2.new.out (line c.parity.result 0) (line c.parity.result 1) 2248 2300 at c.put.ensures c.put-2.ensures
+    (omega arith) (omega arith) (omega arith) below
 
 pub returns-clause-right : goal.returns-clause-right
 returns-clause-right c = λ word above below.
