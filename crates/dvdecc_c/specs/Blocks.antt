@@ -17,23 +17,20 @@ use Rattle.dvdecc_c.specs.declared.status.TheConstants.{OK, ROWS, COLUMN, ROW, I
 abbrev pub captured_answers : List ℕ → List (Option (List ℕ))
 captured_answers bytes = answers_of (captured_rows Marked bytes) (captured_marks Marked bytes)
 
--- the status of a cause
-abbrev pub cause_status : Cause → ℕ
-cause_status (Rows failed) = ROWS
-cause_status (Column j) = COLUMN
-cause_status (Row i) = ROW
-cause_status (Ied f) = IED
-cause_status (Address f found) = ID
-cause_status (Edc f) = EDC
+-- the status of a cause, and its number: of failed rows, of the column, of the row, or of the frame
+abbrev pub cause_answer : Cause → ℕ × ℕ
+cause_answer (Rows failed) = (ROWS, failed)
+cause_answer (Column j) = (COLUMN, j)
+cause_answer (Row i) = (ROW, i)
+cause_answer (Ied f) = (IED, f)
+cause_answer (Address f found) = (ID, f)
+cause_answer (Edc f) = (EDC, f)
 
--- the number of a cause: of failed rows, of the column, of the row, or of the frame
+abbrev pub cause_status : Cause → ℕ
+cause_status cause = (cause_answer cause).0
+
 abbrev pub cause_number : Cause → ℕ
-cause_number (Rows failed) = failed
-cause_number (Column j) = j
-cause_number (Row i) = i
-cause_number (Ied f) = f
-cause_number (Address f found) = f
-cause_number (Edc f) = f
+cause_number cause = (cause_answer cause).1
 
 -- the status by the cause, if there is one
 abbrev pub block_status : Option Cause → ℕ

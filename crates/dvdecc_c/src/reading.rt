@@ -12,7 +12,7 @@
 //!
 //! The exports are public and keep their names (`no_mangle`), since C finds them by these. To C an array is a pointer,
 //! and `alloc` is no parameter: it is the memory of malloc.
-ghost use Rattle.std.specs.Prelude.{◌≡◌, ◌≢◌, Ok, Err};
+ghost use Rattle.std.specs.Prelude.{◌≡◌, ◌≢◌, Ok, Err, IfOk, IfErr};
 ghost use Rattle.coding.specs.TwoPass.{answers_of};
 ghost use Rattle.dvd_capture.specs.Captured.{captured_marks, captured_rows};
 ghost use Rattle.dvd_capture.specs.Rule.{HasAnswers};
@@ -57,16 +57,10 @@ pub extern "C" fn dvdecc_read_block(
     ensures same_report { result ≡ 2 → report.new ≡ report.old }
     ensures asked { result ≡ 2 → asked_status (asked_block id rule) ≡ 0 }
 {
-    // What can be refused without memory is refused first.
-    let plan = match plan_of(id, rule) {
-        Ok(plan) => plan,
-        Err(status) => return status,
-    };
-    let Ok(mut work) = Work::new(alloc) else {
-        return status::NO_MEMORY;
-    };
-    receive(capture, &mut work);
-    read_received(&mut work, &plan, sectors, report)
+    match receive_asked(alloc, capture, id, rule) {
+        Ok((mut work, plan)) => read_received(&mut work, &plan, sectors, report),
+        Err(status) => status,
+    }
 }
 
 /// Writes the sectors of a captured block whose data frames can be known to be right, and zeros for the others. `id`
@@ -88,16 +82,36 @@ pub extern "C" fn dvdecc_salvage_block(
     ensures same_saved { result ≡ 2 → saved.new ≡ saved.old }
     ensures asked { result ≡ 2 → asked_status (asked_block id rule) ≡ 0 }
 {
-    let plan = match plan_of(id, rule) {
-        Ok(plan) => plan,
-        Err(refused) => return refused,
-    };
+    match receive_asked(alloc, capture, id, rule) {
+        Ok((mut work, plan)) => {
+            salvage_received(&mut work, &plan, sectors, saved);
+            status::OK
+        }
+        Err(refused) => refused,
+    }
+}
+
+// Receives the block that is asked for. What can be refused without memory is refused first.
+fn receive_asked(
+    alloc: Global,
+    capture: &[u8; 42640],
+    id: u32,
+    rule: u32,
+) -> Result<(Work, BlockPlan), u32>
+    ensures stage { IfOk result (λ given. stage_of given.0 ≡ Fetched) }
+    ensures rows { IfOk result (λ given. rows_of given.0 ≡ captured_rows Marked capture.now) }
+    ensures marks { IfOk result (λ given. marks_of_work given.0 ≡ captured_marks Marked capture.now) }
+    ensures plan { IfOk result (λ given. asked_block id rule ≡ Ok given.1) }
+    ensures numbers { IfOk result (λ given. HasNumbers given.1) }
+    ensures refused { IfErr result (λ status. status ≢ 2 → asked_block id rule ≡ Err status) }
+    ensures asked { IfErr result (λ status. status ≡ 2 → asked_status (asked_block id rule) ≡ 0) }
+{
+    let plan = plan_of(id, rule)?;
     let Ok(mut work) = Work::new(alloc) else {
-        return status::NO_MEMORY;
+        return Err(status::NO_MEMORY);
     };
     receive(capture, &mut work);
-    salvage_received(&mut work, &plan, sectors, saved);
-    status::OK
+    Ok((work, plan))
 }
 
 // The entry of a plan whose frames these are, or the status of what is wrong: the rule first, then the number. A place

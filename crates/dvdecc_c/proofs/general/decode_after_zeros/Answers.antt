@@ -74,6 +74,11 @@ told-zeros k n r word lost whole whole_lost full before sum size lost_size is lo
     ∙ ap (λ (n : ℕ). record { errors = error_count word (drop k full) (lost_marks lost); erasures = n }) erasures
     ∙ sym (ap (λ near. with_correction near word (lost_marks lost) before) is_short)
 
+-- the lost places of a word are as many as its bytes, so as many zeros come before them
+lost_after : (word lost whole_lost : List ℕ) → length lost ≡ length word → whole_lost ≡ zeros_and (255 - length lost) lost
+    → whole_lost ≡ zeros_and (255 - length word) lost
+lost_after word lost whole_lost same is = is ∙ ap (λ (m : ℕ). zeros_and (255 - m) lost) same
+
 -- a test isn't both
 not_both : {b : Bool} → IsTrue b → b ≡ false → ⊥
 not_both is_true is_false = false≢true (sym is_false ∙ is_true)
@@ -84,10 +89,9 @@ none-Then-status-ne-OK g c =
     let word = c.args.word.now in
     let lost = c.args.lost.now in
     let n : ℕ = length word in
-    let lost_is : c.after_zeros.result ≡ zeros_and (255 - n) lost =
-    c.after_zeros.ensures ∙ ap (λ (m : ℕ). zeros_and (255 - m) lost) c.requires.lost in
     subst (λ (p : ℕ). near_of n p word (lost_marks lost) ≡ None) (sym c.requires.parity)
-    (refused-status (255 - n) n g.row.R word lost c.after_zeros-whole.result c.after_zeros.result (omega arith) refl c.requires.lost c.after_zeros-whole.ensures lost_is
+    (refused-status (255 - n) n g.row.R word lost c.after_zeros-whole.result c.after_zeros.result (omega arith) refl c.requires.lost c.after_zeros-whole.ensures
+    (lost_after word lost c.after_zeros.result c.requires.lost c.after_zeros.ensures)
     (λ is. c.if-status-ne-OK.true (c.decode_word-status.ensures.status ∙ is)))
 
 -- nothing is near, since what is near the longer word begins otherwise
@@ -96,11 +100,9 @@ none-Then-not-are_zeros g c =
     let word = c.args.word.now in
     let lost = c.args.lost.now in
     let n : ℕ = length word in
-    let lost_is : c.after_zeros.result ≡ zeros_and (255 - n) lost =
-    c.after_zeros.ensures ∙ ap (λ (m : ℕ). zeros_and (255 - m) lost) c.requires.lost in
     subst (λ (p : ℕ). near_of n p word (lost_marks lost) ≡ None) (sym c.requires.parity)
-    (refused-zeros (255 - n) n g.row.R word lost c.after_zeros-whole.result c.after_zeros.result c.decode_word-status.new.word (omega arith) refl c.requires.lost c.after_zeros-whole.ensures lost_is
-    c.decode_word-status.ensures.word
+    (refused-zeros (255 - n) n g.row.R word lost c.after_zeros-whole.result c.after_zeros.result c.decode_word-status.new.word (omega arith) refl c.requires.lost c.after_zeros-whole.ensures
+    (lost_after word lost c.after_zeros.result c.requires.lost c.after_zeros.ensures) c.decode_word-status.ensures.word
     (λ prefix. not_both (c.are_zeros.ensures.1 (prefix ∙ ap (λ (m : ℕ). replicate m 0)
     (sym (length-take-le (255 - n) c.decode_word-status.new.word (omega (arith, c.decode_word-status.array_long)))))) c.if-not-are_zeros.true))
 
@@ -128,7 +130,7 @@ module _ (g : Over) (c : goal.After-slice_known-2-1 g) where
   n = length c.args.word.now
 
   lost_is : c.after_zeros.result ≡ zeros_and (255 - n) c.args.lost.now
-  lost_is = c.after_zeros.ensures ∙ ap (λ (m : ℕ). zeros_and (255 - m) c.args.lost.now) c.requires.lost
+  lost_is = lost_after c.args.word.now c.args.lost.now c.after_zeros.result c.requires.lost c.after_zeros.ensures
 
   prefix : take (255 - n) c.decode_word-status.new.word ≡ replicate (255 - n) 0
   prefix =

@@ -2,4 +2,4 @@
 use Rattle.dvdecc_c.proofs.reading.dvdecc_salvage_block.Goals as goal
 
 pub returns-in-Err-clause-asked : goal.returns-in-Err-clause-asked
-returns-in-Err-clause-asked c = λ missing. absurd (c.in-Err.ensures.numbers missing)
+returns-in-Err-clause-asked c = c.in-Err.ensures.asked
