@@ -3,37 +3,28 @@
 ghost use Rattle.std.specs.Prelude.{◌≡◌, length};
 
 use crate::{Code, Ied, Pi, Po};
+use rand_xoshiro::SplitMix64;
+use rand_xoshiro::rand_core::{Rng, SeedableRng};
 use sha2::{Digest, Sha256};
 
-/// Drawn bytes: each is the top eight bits of a state of 64 bits, to which three shifts of itself were added.
-/// With shifts by 13, 7 and 17 all states but 0 come before one comes again; the first is any of them. The other
-/// program draws the same.
-#[derive(Drop)]
-struct Drawn {
-    state: u64,
+/// The parity of a message of zeros and a last byte 1.
+fn parity_of_one<const N: usize, const R: usize>(code: &Code<N, R>) -> [u8; R] {
+    let mut word = [0; N];
+    word[N - R - 1] = 1;
+    code.encode(&mut word);
+    let bytes = &word[..];
+    let mut parity = [0; R];
+    parity.copy_from_slice(&bytes[N - R..]);
+    parity
 }
 
-impl Drawn {
-    fn byte(&mut self) -> u8 {
-        self.state ^= self.state << 13;
-        self.state ^= self.state >> 7;
-        self.state ^= self.state << 17;
-        self.state.to_be_bytes()[0]
-    }
-
-    fn fill_first(&mut self, bytes: &mut [u8], count: usize) {
-        for byte in bytes.iter_mut().take(count) {
-            *byte = self.byte();
-        }
-    }
-}
-
-/// The digest of the parity bytes of 100 drawn words, one after the other.
-fn parity_digest<const N: usize, const R: usize>(code: &Code<N, R>, drawn: &mut Drawn) -> [u8; 32] {
+/// The digest of the parity bytes of 100 drawn words, one after the other. The other program draws the same.
+fn parity_digest<const N: usize, const R: usize>(code: &Code<N, R>, seed: u64) -> [u8; 32] {
+    let mut drawn = SplitMix64::seed_from_u64(seed);
     let mut hasher = Sha256::new();
     for _k in 0..100 {
         let mut word = [0; N];
-        drawn.fill_first(&mut word, N - R);
+        drawn.fill_bytes(&mut word[..N - R]);
         code.encode(&mut word);
         let bytes = &word[..];
         hasher.update(&bytes[N - R..]);
@@ -43,19 +34,17 @@ fn parity_digest<const N: usize, const R: usize>(code: &Code<N, R>, drawn: &mut 
 
 #[test]
 fn encodes_as_worked(rt: HostRuntime) {
-    let mut row = [0; 182];
-    row[171] = 1;
-    Pi::new().encode(&mut row);
     assert_eq!(rt;
-        &row[172..],
-        b"\xD8\xC2\x9F\x6F\xC7\x5E\x5F\x71\x9D\xC1".as_slice()
+        parity_of_one(&Pi::new()),
+        *b"\xD8\xC2\x9F\x6F\xC7\x5E\x5F\x71\x9D\xC1"
     );
-    let mut column = [0; 208];
-    column[191] = 1;
-    Po::new().encode(&mut column);
     assert_eq!(rt;
-        &column[192..],
-        b"\x3B\x0D\x68\xBD\x44\xD1\x1E\x08\xA3\x41\x29\xE5\x62\x32\x24\x3B".as_slice()
+        parity_of_one(&Po::new()),
+        *b"\x3B\x0D\x68\xBD\x44\xD1\x1E\x08\xA3\x41\x29\xE5\x62\x32\x24\x3B"
+    );
+    assert_eq!(rt;
+        parity_of_one(&Code::<255, 32>::new()),
+        *b"\x74\x40\x34\xAE\x36\x7E\x10\xC2\xA2\x21\x21\x9D\xB0\xC5\xE1\x0C\x3B\x37\xFD\xE4\x94\x2F\xB3\xB9\x18\x8A\xFD\x14\x8E\x37\xAC\x58"
     );
     let mut id = [0, 3, 0, 0, 0xFF, 0xFF];
     Ied::new().encode(&mut id);
@@ -63,24 +52,17 @@ fn encodes_as_worked(rt: HostRuntime) {
     let mut pair = [5, 0];
     Code::<2, 1>::new().encode(&mut pair);
     assert_eq!(rt; pair, [5, 5]);
-    let mut longest = [0; 255];
-    longest[222] = 1;
-    Code::<255, 32>::new().encode(&mut longest);
-    assert_eq!(rt;
-        &longest[223..],
-        b"\x74\x40\x34\xAE\x36\x7E\x10\xC2\xA2\x21\x21\x9D\xB0\xC5\xE1\x0C\x3B\x37\xFD\xE4\x94\x2F\xB3\xB9\x18\x8A\xFD\x14\x8E\x37\xAC\x58".as_slice()
-    );
 }
 
 #[test]
 fn encodes_drawn_words(rt: HostRuntime) {
     assert_eq!(rt;
-        parity_digest(&Pi::new(), &mut Drawn { state: 2 }),
-        *b"\x27\xD5\xDA\x99\xDE\x4A\xA7\x92\x32\xBD\x17\x8F\x9F\x4A\x7E\x2B\xCE\x3C\x43\xE8\x90\x9A\x2B\x7E\x53\xA1\x72\xB8\x8E\x5D\x19\x7B"
+        parity_digest(&Pi::new(), 2),
+        *b"\xA1\xCB\xB5\x59\x87\x9C\x77\xDD\xFA\xB6\xB2\x0A\xAD\x87\x99\x82\xB9\x6F\x73\x63\xAE\x64\x08\x23\xC8\x08\x58\xF6\x60\x1E\xB4\x64"
     );
     assert_eq!(rt;
-        parity_digest(&Po::new(), &mut Drawn { state: 3 }),
-        *b"\xDE\x6E\x4C\x02\x0E\x93\x0A\x1D\x8C\xA3\x93\x6C\x57\xC4\x4C\x86\xC2\x40\x22\x59\x13\x22\x41\x9B\x14\x9B\xCF\x3F\x24\x71\xE3\xB7"
+        parity_digest(&Po::new(), 3),
+        *b"\x1A\x95\x4C\xBE\x5A\x3C\xB6\x88\x95\x53\x0B\x97\xD3\x2C\x71\x1D\x45\xDE\x5E\xC4\xD1\xB3\x21\xAB\x86\x97\x31\xCE\x50\x61\xEB\x75"
     );
 }
 

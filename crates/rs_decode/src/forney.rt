@@ -100,8 +100,8 @@ pub fn times_distance(lanes: u8x32, point: u8) -> u8x32
     with_multiple(lanes, moved_up(0, lanes), point)
 }
 
-// The value of a polynomial at an element, the highest power first, by Horner's rule. `value_at` of rs_code asks for
-// the logarithm of `x`, which isn't at hand here.
+// The value of a polynomial at an element, the highest power first. By Horner's rule, since the logarithm of `x` isn't
+// at hand here.
 fn value_at(polynomial: &[u8], x: u8) -> u8
     ensures { result ≡ value polynomial.now x }
 {

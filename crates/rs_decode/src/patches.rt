@@ -70,10 +70,8 @@ impl Patches {
         ensures same { result ≡ false → word.new ≡ word.old }
     {
         let count = erasures.points.len();
-        // Only with an inverse does `Erasures` ensure that its list has the marked places. The inverse itself says that
-        // there are sixteen at most, but only where it is taken out of its `Option`, as `new` does; here nothing is
-        // wanted of it, so the count is tested for the prover.
-        if self.wrong[n] != 0 || count > 16 || erasures.inverse.is_none() {
+        // The test of the count is for the prover, which doesn't know that more than sixteen marks have no patches.
+        if self.wrong[n] != 0 || count > 16 {
             return false;
         }
         self.add_to(&erasures.places[..count], n, word);

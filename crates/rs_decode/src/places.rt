@@ -29,14 +29,14 @@ pub struct Erasures<const N: usize> {
     pub(crate) points: ArrayVec<u8, 32>,
     // The inverse of their powers, where many words are to be filled at them and they are at most sixteen.
     pub(crate) inverse: Option<Inverse>,
-    // The marked places in order, there too: as many as there are points, and zeros or others after them.
+    // The marked places in order: as many as there are points, and zeros or others after them.
     // A word has at most 255 places, so that each is a byte and 256 entries are enough.
     pub(crate) places: [u8; 256],
     /// A word of `N` bytes has as many places.
     pub ghost size: { length marks ≡ N },
     ghost gathered: { points.items ≡ picked marks (points_of (length marks)) },
     ghost same_points: { ForSome inverse (λ inverse. inverse.points.items ≡ points.items) },
-    ghost located: { ForSome inverse (λ _. ArePlaces marks (length points.items) places) },
+    ghost located: { ArePlaces marks (length points.items) places },
 }
 
 impl<const N: usize> Erasures<N> {
@@ -71,22 +71,15 @@ impl<const N: usize> Erasures<N> {
     }
 
     /// The same for many words, as the columns of a block are, for which the inverse of the places' powers is made
-    /// once. It pays from some ten words on. The marked places are listed too, so that bytes are added there without
-    /// logarithms.
+    /// once. It pays from some ten words on. Bytes are then added at the list of places, without logarithms.
     pub fn shared(marks: &[bool; N], most: usize) -> Option<Self>
         requires room { most ≤ 32 }
         requires short { N ≤ 255 }
         ensures { MatchOption result (most < marked marks.now) (λ erasures. (marked marks.now ≤ most) × (erasures.marks ≡ marks.now)) }
     {
-        let mut places = [0; 256];
-        let points = marked_points(marks, most, &mut places)?;
-        let inverse = inverse_of(&points);
-        Some(Erasures {
-            marks: *marks,
-            points,
-            inverse,
-            places,
-        })
+        let mut erasures = Erasures::new(marks, most)?;
+        erasures.inverse = inverse_of(&erasures.points);
+        Some(erasures)
     }
 
     /// The bytes at the marked places that have these power sums, if any have; else any bytes. Sums past the number of
@@ -181,7 +174,6 @@ fn gather_places(marks: &[bool], places: &mut [u8; 256])
 /// Adds each byte to the place that has its point; all other places stay. Where the points are those of marked places,
 /// these are patched in order. Done twice it changes nothing, by which a caller takes it back. Also ensures that its
 /// elements are bytes. A point that no place of the word has is passed over, as the type of the points allows any byte.
-/// It goes by points, since the list of places is only ensured where there is an inverse.
 pub fn patch(word: &mut [u8], points: &[u8], bytes: &[u8])
     requires short { length word.old ≤ 255 }
     requires fits { length bytes.now ≡ length points.now }

@@ -4,6 +4,8 @@ ghost use Rattle.std.specs.Prelude.{◌≡◌, ◌<◌, ◌≤◌, length};
 
 use crate::{Beyond, Erasures, Fix, NoCodeword, Patches, decode, fill, shortest};
 use gf_field::mul;
+use rand_xoshiro::SplitMix64;
+use rand_xoshiro::rand_core::{Rng, SeedableRng};
 use rs_code::{Code, Ied, Pi, Po};
 use sha2::{Digest, Sha256};
 use std::simd::prelude::*;
@@ -115,74 +117,50 @@ fn decodes_the_shortest_words(rt: HostRuntime) {
     assert_eq!(rt; pair, [0x05, 0x05]);
 }
 
-/// Drawn numbers: each is a state of 64 bits, to which three shifts of itself were added.
-/// With shifts by 13, 7 and 17 all states but 0 come before one comes again; the first is any of them. The other
-/// decoder was given the same.
-#[derive(Drop)]
-struct Drawn {
-    state: u64,
+// A drawn byte. The other decoder draws the same.
+fn byte(drawn: &mut SplitMix64) -> u8 {
+    drawn.next_u64().to_be_bytes()[0]
 }
 
-impl Drawn {
-    fn number(&mut self) -> u64 {
-        self.state ^= self.state << 13;
-        self.state ^= self.state >> 7;
-        self.state ^= self.state << 17;
-        self.state
-    }
+// A drawn number below a bound.
+fn below(drawn: &mut SplitMix64, bound: usize) -> usize
+    requires { 0 < bound }
+    ensures { result < bound }
+{
+    (drawn.next_u64() % bound as u64) as usize
+}
 
-    fn byte(&mut self) -> u8 {
-        self.number().to_be_bytes()[0]
-    }
-
-    fn below(&mut self, bound: usize) -> usize
-        requires { 0 < bound }
-        ensures { result < bound }
-    {
-        (self.number() % bound as u64) as usize
-    }
-
-    fn fill_first(&mut self, bytes: &mut [u8], count: usize) {
-        for byte in bytes.iter_mut().take(count) {
-            *byte = self.byte();
-        }
-    }
-
-    /// Damages up to one marked place more than `parity`, and up to one unmarked place more than half of it. They are
-    /// 31 apart, which has no factor in common with a length here, so that no place comes twice; any such number would
-    /// do.
-    fn damage(&mut self, word: &mut [u8], marks: &mut [bool], parity: usize)
-        requires some { 0 < length word.old }
-        requires fits { length marks.old ≡ length word.old }
-        requires few { parity ≤ 32 }
-    {
-        let marked = self.below(parity + 2);
-        let wrong = self.below(parity / 2 + 2);
-        let first = self.below(word.len());
-        for k in 0..marked + wrong {
-            let place = (first + 31 * k) % word.len();
-            if k < marked {
-                marks[place] = true;
-                word[place] ^= self.byte();
-            } else {
-                word[place] ^= self.byte() | 1;
-            }
+/// Damages up to one marked place more than `parity`, and up to one unmarked place more than half of it. They are
+/// 31 apart, which has no factor in common with a length here, so that no place comes twice; any such number would
+/// do.
+fn damage(drawn: &mut SplitMix64, word: &mut [u8], marks: &mut [bool], parity: usize)
+    requires some { 0 < length word.old }
+    requires fits { length marks.old ≡ length word.old }
+    requires few { parity ≤ 32 }
+{
+    let marked = below(drawn, parity + 2);
+    let wrong = below(drawn, parity / 2 + 2);
+    let first = below(drawn, word.len());
+    for k in 0..marked + wrong {
+        let place = (first + 31 * k) % word.len();
+        if k < marked {
+            marks[place] = true;
+            word[place] ^= byte(drawn);
+        } else {
+            word[place] ^= byte(drawn) | 1;
         }
     }
 }
 
-/// The digest of what is answered for 300 drawn words, and of the words as they are left.
-fn answers_digest<const N: usize, const R: usize>(
-    code: &Code<N, R>,
-    drawn: &mut Drawn,
-) -> [u8; 32] {
-    let mut hasher = Sha256::new();
+/// Adds to a digest what is answered for 300 drawn words, and the words as they are left.
+fn hash_answers<const N: usize, const R: usize>(hasher: &mut Sha256, code: &Code<N, R>, seed: u64) {
+    let mut drawn = SplitMix64::seed_from_u64(seed);
     for _k in 0..300 {
         let mut word = [0; N];
-        drawn.fill_first(&mut word, N - R);
+        drawn.fill_bytes(&mut word[..N - R]);
         code.encode(&mut word);
         let mut marks = [false; N];
-        drawn.damage(&mut word, &mut marks, R);
+        damage(&mut drawn, &mut word, &mut marks, R);
         match decode(code, &mut word, &marks) {
             Ok(fix) => {
                 // Both counts are below 256, so that their low bytes are all of them.
@@ -193,22 +171,17 @@ fn answers_digest<const N: usize, const R: usize>(
         }
         hasher.update(&word);
     }
-    hasher.finalize()
 }
 
 #[test]
 fn decodes_drawn_words(rt: HostRuntime) {
+    let mut hasher = Sha256::new();
+    hash_answers(&mut hasher, &Pi::new(), 4);
+    hash_answers(&mut hasher, &Po::new(), 5);
+    hash_answers(&mut hasher, &Ied::new(), 6);
     assert_eq!(rt;
-        answers_digest(&Pi::new(), &mut Drawn { state: 4 }),
-        *b"\x45\x27\xB5\x46\xCA\xC6\xD8\x20\x47\xB4\x14\xCD\xC4\xE3\x4E\x10\x8A\x2D\x3E\xDF\xDF\xCF\x0F\xEA\xCC\xE4\x71\x98\xDA\xA4\xE0\xB1"
-    );
-    assert_eq!(rt;
-        answers_digest(&Po::new(), &mut Drawn { state: 5 }),
-        *b"\x32\x3E\x86\x74\xBC\xEF\xFA\xD2\xA3\x29\xD8\x63\x88\x2A\xE8\x52\x0F\x32\x55\x03\x1F\x2A\x29\x3C\x31\xBE\x2A\x86\xD3\x9F\xEC\x92"
-    );
-    assert_eq!(rt;
-        answers_digest(&Ied::new(), &mut Drawn { state: 6 }),
-        *b"\xC7\x80\x88\x1F\xDF\x68\x02\xDC\xCF\xA9\x14\x43\x42\xA6\xB1\x58\xA2\x17\xC2\xD3\x4D\x3C\x0C\x0E\xFE\xAC\xA4\xFB\x6E\xB4\xD3\x05"
+        hasher.finalize(),
+        *b"\x33\xE6\xA4\x80\xC2\x70\xFF\x25\x73\xF6\x9E\x7A\xF9\xA0\xF6\xF9\x4F\xA9\x53\xC9\xA8\x6C\xBB\xC8\x57\x69\xE4\xF9\xCC\x31\x49\xE6"
     );
 }
 
@@ -235,9 +208,9 @@ fn registers_are_alike_where_they_generate_one_recurrence(rt: HostRuntime) {
 
 /// Adds the powers of a drawn point, each times a drawn byte, to a list: a register of as many taps as points generates
 /// it.
-fn add_powers(drawn: &mut Drawn, list: &mut [u8]) {
-    let point = drawn.byte();
-    let mut byte = drawn.byte();
+fn add_powers(drawn: &mut SplitMix64, list: &mut [u8]) {
+    let point = byte(drawn);
+    let mut byte = byte(drawn);
     for number in list.iter_mut() {
         *number ^= byte;
         byte = mul(byte, point);
@@ -245,15 +218,15 @@ fn add_powers(drawn: &mut Drawn, list: &mut [u8]) {
 }
 
 /// A list of bytes, of bits, or of sums of powers.
-fn fill_list(drawn: &mut Drawn, list: &mut [u8]) {
-    let kind = drawn.below(3);
+fn fill_list(drawn: &mut SplitMix64, list: &mut [u8]) {
+    let kind = below(drawn, 3);
     if kind == 2 {
-        for _k in 0..drawn.below(18) {
+        for _k in 0..below(drawn, 18) {
             add_powers(drawn, list);
         }
     } else {
         for number in list.iter_mut() {
-            *number = drawn.byte() & if kind == 0 { 0xFF } else { 0x01 };
+            *number = byte(drawn) & if kind == 0 { 0xFF } else { 0x01 };
         }
     }
 }
@@ -261,11 +234,11 @@ fn fill_list(drawn: &mut Drawn, list: &mut [u8]) {
 /// The digest of the lengths for 2,000 drawn lists, and of the taps where no others are as short.
 #[test]
 fn finds_shortest_registers_of_drawn_lists(rt: HostRuntime) {
-    let mut drawn = Drawn { state: 7 };
+    let mut drawn = SplitMix64::seed_from_u64(7);
     let mut hasher = Sha256::new();
     for _k in 0..2000 {
         let mut list = [0; 32];
-        let size = drawn.below(33);
+        let size = below(&mut drawn, 33);
         fill_list(&mut drawn, &mut list[..size]);
         let register = shortest(&list[..size]);
         hasher.update(&[register.len.to_be_bytes()[1]]);
@@ -275,19 +248,19 @@ fn finds_shortest_registers_of_drawn_lists(rt: HostRuntime) {
     }
     assert_eq!(rt;
         hasher.finalize(),
-        *b"\xB8\x6E\x08\xDE\xDE\x99\x59\x6B\x6E\x80\xB0\x70\xAD\xF9\x98\x13\x41\x52\x7E\x05\x9C\xA4\x1E\xD5\xE2\x97\xD3\x9E\x72\xE3\x31\x70"
+        *b"\xE3\x5F\x34\x8E\xF4\x19\x36\x96\x55\x3D\x0F\x1F\x5D\xE5\x21\x46\x09\x74\xEC\x94\xDE\x4D\x41\xD3\x58\x9B\xCF\xA4\x85\xB0\x43\x5F"
     );
 }
 
 /// The values at alpha^0 to alpha^15 of 32 words that are 0 but for drawn bytes at their marked places.
-fn drawn_values(drawn: &mut Drawn, marks: &[bool; 208]) -> [u8x32; 16] {
+fn drawn_values(drawn: &mut SplitMix64, marks: &[bool; 208]) -> [u8x32; 16] {
     let code = Po::new();
     let mut values = [[0; 32]; 16];
     for n in 0..32usize {
         let mut word = [0; 208];
         for place in 0..208usize {
             if marks[place] {
-                word[place] = drawn.byte();
+                word[place] = byte(drawn);
             }
         }
         for (k, value) in code.syndromes(&word).iter().enumerate() {
@@ -304,7 +277,7 @@ fn drawn_values(drawn: &mut Drawn, marks: &[bool; 208]) -> [u8x32; 16] {
 /// Whether what is proposed for 32 words with `count` marks from place `first` on, 13 apart, is right for each, so that
 /// none has to be decoded by itself: else answers stay right and take longer. Sixteen marks go once round the 208
 /// places.
-fn are_patched(drawn: &mut Drawn, first: usize, count: usize) -> bool {
+fn are_patched(drawn: &mut SplitMix64, first: usize, count: usize) -> bool {
     let mut marks = [false; 208];
     for k in 0..count {
         marks[first.wrapping_add(k.wrapping_mul(13)) % 208] = true;
@@ -317,13 +290,13 @@ fn are_patched(drawn: &mut Drawn, first: usize, count: usize) -> bool {
 
 #[test]
 fn patches_all_words_with_up_to_sixteen_marks(rt: HostRuntime) {
-    let mut drawn = Drawn { state: 9 };
+    let mut drawn = SplitMix64::seed_from_u64(9);
     for first in [0usize, 207] {
         assert!(rt; are_patched(&mut drawn, first, 1), "at {first}");
     }
     for count in [1usize, 2, 5, 15, 16] {
         for _k in 0..8 {
-            let first = drawn.below(208);
+            let first = below(&mut drawn, 208);
             assert!(rt;
                 are_patched(&mut drawn, first, count),
                 "{count} from {first}"
@@ -337,7 +310,7 @@ fn patches_all_words_with_up_to_sixteen_marks(rt: HostRuntime) {
 fn names_words_that_are_not_patched(rt: HostRuntime) {
     let mut marks = [false; 208];
     marks[100] = true;
-    let mut values = drawn_values(&mut Drawn { state: 10 }, &marks);
+    let mut values = drawn_values(&mut SplitMix64::seed_from_u64(10), &marks);
     values[3] ^= u8x32::from_array([
         1, 0, 0, 0, 0, 0, 0, 2, 0, 0, 0, 0, 0, 0, 0, 0, 0, 0, 0, 0, 0, 0, 0, 0, 0, 0, 0, 0, 0, 0,
         0, 0x80,

@@ -1,7 +1,5 @@
 -- The proof of `fill` in src/patches.rt.
-use Rattle.std.proofs.Common.{◌≡◌, ◌<◌, ℕ, Bool, List, true, not, refl, Some, None, is_some, ◌∙◌, length, length-take-le, take, get_or-take, sym, rules, ap, subst, arith}
-use Rattle.std.specs.Option.{ForSome}
-use Rattle.std.specs.declared.option.Option.{Option}
+use Rattle.std.proofs.Common.{◌≡◌, ◌<◌, ℕ, Bool, List, ◌∙◌, length, length-take-le, take, get_or-take, sym, rules, ap, subst, arith}
 use Rattle.coding.specs.Field.{alpha, power}
 use Rattle.coding.specs.Filling.{AgreeUnmarked, marked}
 use Rattle.coding.specs.Rows.{column}
@@ -11,11 +9,6 @@ use Rattle.rs_decode.specs.Patches.{patched}
 use Rattle.rs_decode.proofs.Fillings.{AgreeUnmarked-patched, points-few}
 use Rattle.rs_decode.proofs.Marks.{place_of_mark-inside}
 use Rattle.rs_decode.proofs.patches.Patches.fill.Goals as goal
-
--- what is said where there is something holds if there is
-where-some : {X : Type 0} (found : Option X) (P : Type 0) → is_some found ≡ true → ForSome found (λ _. P) → P
-where-some None P is said = cc
-where-some (Some x) P is said = said x refl
 
 -- the first places are those of the marks
 placed : (marks : List Bool) (places : List ℕ) (count : ℕ) → count ≡ marked marks → ArePlaces marks count places → ArePlaces marks (marked marks) (take count places)
@@ -27,9 +20,7 @@ add_to-requires-clause-inside g c = λ i below.
     let count : c.len-count.result ≡ marked erasures.marks = c.len-count.ensures.value ∙ points-few erasures.marks erasures.points.items erasures.gathered in
     let few : length erasures.places ≡ 256 = search rules in
     let within : i < marked erasures.marks = omega (arith, count, length-take-le c.len-count.result erasures.places (omega (arith, few, c.if-count-gt16.false))) in
-    let all = where-some erasures.inverse (ArePlaces erasures.marks (length erasures.points.items) erasures.places)
-    (c.is_none.ensures ∙ ap not c.if-is_none.false) erasures.located in
-    let located = placed erasures.marks erasures.places c.len-count.result count (subst (λ n. ArePlaces erasures.marks n erasures.places) (sym c.len-count.ensures.value) all) in
+    let located = placed erasures.marks erasures.places c.len-count.result count (subst (λ n. ArePlaces erasures.marks n erasures.places) (sym c.len-count.ensures.value) erasures.located) in
     omega (arith, located i within, place_of_mark-inside erasures.marks i within, c.told-word, erasures.size)
 
 pub returns-clause-filled : goal.returns-clause-filled
@@ -42,9 +33,7 @@ returns-clause-filled g c = λ _.
     let few : length erasures.places ≡ 256 = search rules in
     let first = take c.len-count.result erasures.places in
     let long : length first ≡ marked erasures.marks = length-take-le c.len-count.result erasures.places (omega (arith, few, c.if-count-gt16.false)) ∙ count in
-    let all = where-some erasures.inverse (ArePlaces erasures.marks (length erasures.points.items) erasures.places)
-    (c.is_none.ensures ∙ ap not c.if-is_none.false) erasures.located in
-    let located = placed erasures.marks erasures.places c.len-count.result count (subst (λ n. ArePlaces erasures.marks n erasures.places) (sym c.len-count.ensures.value) all) in
+    let located = placed erasures.marks erasures.places c.len-count.result count (subst (λ n. ArePlaces erasures.marks n erasures.places) (sym c.len-count.ensures.value) erasures.located) in
     let filled_is : c.add_to.new.word ≡ patched word erasures.marks bytes = c.add_to.ensures erasures.marks (sym alike) (sym long) located in
     record {
       codeword = record {

@@ -1,5 +1,5 @@
 -- The proof of `Erasures::none` in src/places.rt.
-use Rattle.std.proofs.Common.{replicate, length, false, sym, ◌∙◌, rules}
+use Rattle.std.proofs.Common.{replicate, length, false, sym, ap, ◌∙◌, rules, arith}
 use Rattle.std.proofs.lemmas.List.{length-replicate}
 use Rattle.rs_code.specs.Inner.PowerSums.{points_of}
 use Rattle.rs_decode.proofs.Marks.{picked-replicate}
@@ -10,5 +10,5 @@ invariant_of-result g c = record {
   size = length-replicate g.row.N false;
   gathered = c.new.ensures ∙ sym (picked-replicate g.row.N (points_of (length (replicate g.row.N false))));
   same_points = search rules;
-  located = search rules;
+  located = λ i below. absurd (omega (arith, below, ap length c.new.ensures));
 }
