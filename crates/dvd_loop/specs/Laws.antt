@@ -85,15 +85,12 @@ IsDamageEnd count ReportFault = Unit {0}
 IsDamageEnd count (Damaged blocks) = blocks ≤ count
 IsDamageEnd count end = IsPlainEnd count end
 
--- the ends of a loop over a number of units that looks for the first one of a kind and reports nothing: the unit found
--- is the last, and without one the loop ends after all of them as NoControl
+-- those of a loop that looks for the first unit of a kind and reports nothing: the unit found is the last, and without
+-- one the loop ends after all of them as NoControl, where nothing is requested that could be too much
 abbrev pub IsSearchEnd : ℕ → LoopEnd → Type 0
-IsSearchEnd count Done = Unit {0}
-IsSearchEnd count ReadFault = Unit {0}
-IsSearchEnd count WriteFault = Unit {0}
-IsSearchEnd count (Short unit bytes) = unit < count
 IsSearchEnd count NoControl = Unit {0}
-IsSearchEnd count end = ⊥
+IsSearchEnd count Long = ⊥
+IsSearchEnd count end = IsPlainEnd count end
 
 -- no unit is of this kind
 abbrev pub IsNever : Units → UnitKind → Type 0
