@@ -29,14 +29,20 @@ pub record AreSilent (units : Units) : Type 0 where
 pub one_write : (steps : List Step) (bytes : List ℕ) → steps ≡ Write bytes ∷ [] → AreWrites steps
 one_write steps bytes is = subst AreWrites (sym is) tt
 
--- units that nothing opens or closes, and for each of which there are only writes
+-- units that nothing closes, and of which the opening and each have only writes
+pub unclosed_silent : (units : Units) → AreWrites units.opens
+    → ((k : ℕ) (before : List (List ℕ)) (own : List ℕ) (steps : List Step) (kind : UnitKind) → units.does k before own steps kind → AreWrites steps)
+    → ((before : List (List ℕ)) (steps : List Step) → units.closes before steps → steps ≡ []) → AreSilent units
+unclosed_silent units opens write none = record {
+  opens = opens;
+  does = write;
+  closes = λ before steps closes. subst AreWrites (sym (none before steps closes)) tt;
+}
+
+-- likewise where nothing opens them
 pub plain_silent : (count : ℕ) (size : ℕ → ℕ) (does : ℕ → List ℕ → List Step → UnitKind → Type 0)
     → ((k : ℕ) (own : List ℕ) (steps : List Step) (kind : UnitKind) → does k own steps kind → AreWrites steps) → AreSilent (plain_units count size does)
-plain_silent count size does write = record {
-  opens = tt;
-  does = λ k before own steps kind done. write k own steps kind done;
-  closes = λ before steps is. subst AreWrites (sym is) tt;
-}
+plain_silent count size does write = unclosed_silent (plain_units count size does) tt (λ k before own. write k own) (λ before steps is. is)
 
 -- these outcomes have no lines
 abbrev HaveNoLines : (Outcome → Type 0) → Type 0

@@ -1,10 +1,10 @@
 -- The proof of `convert_loop` in src/convert.rt.
-use Rattle.std.proofs.Common.{refl, subst, sym}
+use Rattle.std.proofs.Common.{refl}
 use Rattle.dvd_capture.specs.Captured.{block_size}
 use Rattle.dvd_capture.specs.Header.{header_bytes}
 use Rattle.dvd_loop.specs.Machine.{IsOutcome}
 use Rattle.dvd_loop.proofs.LoopEnds.{never_told, plain_end}
-use Rattle.dvd_loop.proofs.Silent.{AreWrites, beside, one_write}
+use Rattle.dvd_loop.proofs.Silent.{beside, one_write, unclosed_silent}
 use Rattle.dvd_loop.proofs.StreamLemmas.{ended_as}
 use Rattle.dvd_commands.specs.Convert.{Converts, convert_units}
 use Rattle.dvd_commands.proofs.convert.Blocks.{sized_part}
@@ -19,11 +19,7 @@ returns-clause-follows g c = λ report.
     ended_as (IsOutcome units) (Converts settings layout) _ _ c.run_units.result
     (λ bytes outcome runs. (opening, c.header_of.ensures settings c.requires.layout refl, runs))
     (beside units
-    (record {
-      opens = tt;
-      does = λ k before own steps kind done. one_write steps _ done.writes;
-      closes = λ before steps none. subst AreWrites (sym none) tt;
-    })
+    (unclosed_silent _ tt (λ k before own steps kind done. one_write steps _ done.writes) (λ before steps none. none))
     _ _ _ _ report c.run_units.result c.run_units.ensures.follows)
 
 pub returns-clause-ends : goal.returns-clause-ends

@@ -1,7 +1,7 @@
 -- The proof of `info_loop` in src/info.rt.
-use Rattle.std.proofs.Common.{refl, subst, sym}
+use Rattle.std.proofs.Common.{refl}
 use Rattle.dvd_loop.proofs.LoopEnds.{never_told}
-use Rattle.dvd_loop.proofs.Silent.{AreWrites, beside}
+use Rattle.dvd_loop.proofs.Silent.{beside, unclosed_silent}
 use Rattle.dvd_commands.specs.Info.{info_units}
 use Rattle.dvd_commands.proofs.CaptureEnds.{sought_end}
 use Rattle.dvd_commands.proofs.info.Blocks.{asked_silent, never_bad}
@@ -11,11 +11,7 @@ pub returns-clause-follows : goal.returns-clause-follows
 returns-clause-follows g c = λ report.
     let settings = c.args.settings.now in
     beside (info_units settings.initial settings.form)
-    (record {
-      opens = tt;
-      does = λ k before own steps kind done. asked_silent done.entry.content done.entry _ _ steps kind done.does;
-      closes = λ before steps none. subst AreWrites (sym none) tt;
-    })
+    (unclosed_silent _ tt (λ k before own steps kind done. asked_silent done.entry.content done.entry _ _ steps kind done.does) (λ before steps none. none))
     _ _ _ _ report c.run_units.result c.run_units.ensures.follows
 
 pub returns-clause-ends : goal.returns-clause-ends
