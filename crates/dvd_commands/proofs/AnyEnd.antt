@@ -2,15 +2,14 @@
 use Rattle.std.proofs.Common.{◌≡◌, ℕ, List, drop, subst, take}
 use Rattle.dvd_loop.specs.Laws.{AreTotal, IsFaultless, IsPrefixOf}
 use Rattle.dvd_loop.specs.Machine.{IsOutcome, Outcome, Units}
-use Rattle.dvd_loop.specs.declared.ends.LoopEnd.TheVariants.{ReadFault}
 use Rattle.dvd_loop.proofs.Faults.{ends_there, leave_prefixes}
+use Rattle.dvd_commands.specs.Bound.{GivesWhatCame}
 use Rattle.dvd_commands.proofs.Pieces.{prefix-part}
 
 -- It is so where no fault ended the loop, and of the bytes that came before a failed read; else the output is the front
 -- of one that it is so of.
 pub record AtAnyEnd (Gives : List ℕ → List ℕ → Type 0) (bytes : List ℕ) (a : Outcome) : Type 0 where
-  pub at_place : IsFaultless a.end → Gives bytes a.out
-  pub received : a.end ≡ ReadFault → Gives a.taken a.out
+  pub given : GivesWhatCame Gives bytes a
   pub whole : List ℕ
   pub gives : Gives bytes whole
   pub prefix : IsPrefixOf a.out whole
@@ -22,10 +21,12 @@ pub at_any_end : (Gives : List ℕ → List ℕ → Type 0) (units : Units) → 
 at_any_end Gives units total law bytes a runs =
     let (b, so, none, out, lines) = leave_prefixes units total bytes a runs in
     record {
-      at_place = law bytes a runs;
-      received = λ failed.
-          let (c, loops, faultless, taken, written, known) = ends_there units bytes a runs failed in
-          subst (Gives a.taken) written (law a.taken c loops faultless);
+      given = record {
+        at_place = law bytes a runs;
+        received = λ failed.
+            let (c, loops, faultless, taken, written, known) = ends_there units bytes a runs failed in
+            subst (Gives a.taken) written (law a.taken c loops faultless);
+      };
       whole = b.out;
       gives = law bytes b so none;
       prefix = out;

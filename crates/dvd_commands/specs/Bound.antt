@@ -58,6 +58,12 @@ pub record IsBeyond (layout : Layout) (zones : Zones) (form : Form) (bytes cpr i
   pub cause : Cause
   pub refused : two_pass_cause (answers_of (captured_rows form (block_bytes form bytes k)) (captured_marks form (block_bytes form bytes k))) ≡ Some cause
 
+-- These are in the output, whatever ended the run: without a fault those of the input, and after a failed read those
+-- that came before it.
+pub record GivesWhatCame (Gives : List ℕ → List ℕ → Type 0) (bytes : List ℕ) (outcome : Outcome) : Type 0 where
+  pub at_place : IsFaultless outcome.end → Gives bytes outcome.out
+  pub received : outcome.end ≡ ReadFault → Gives outcome.taken outcome.out
+
 -- For every image and every CPR_MAI: of each of these blocks that is within the bound, exactly the image sectors are at
 -- their place in the output.
 abbrev pub GivesBack : Layout → Settings → List ℕ → List ℕ → Type 0
@@ -65,14 +71,12 @@ GivesBack layout settings bytes out =
     (cpr image : List ℕ) (k : ℕ) (entry : BlockPlan) → IsBlockWithinBound layout settings.zones settings.form bytes cpr image k entry
     → image_part layout entry out ≡ image_part layout entry image
 
--- The bound, whatever ended the run, for each block within it: without a fault those of the input are given back, and
--- after a failed read those that came before it. After any other fault, what was written of one is a prefix of what was
--- mastered. Nothing else may be done for such a block, so that no line names it.
+-- The bound, for each block within it: those that came are given back, and whatever ended the run, what was written of
+-- one is a prefix of what was mastered. Nothing else may be done for such a block, so that no line names it.
 pub record KeepsBound (settings : Settings) (bytes : List ℕ) (outcome : Outcome) : Type 0 where
   pub layout : Layout
   pub is_layout : IsLayoutOf settings layout
-  pub at_place : IsFaultless outcome.end → GivesBack layout settings bytes outcome.out
-  pub received : outcome.end ≡ ReadFault → GivesBack layout settings outcome.taken outcome.out
+  pub given : GivesWhatCame (GivesBack layout settings) bytes outcome
   pub begun : (cpr image : List ℕ) (k : ℕ) (entry : BlockPlan) → IsBlockWithinBound layout settings.zones settings.form bytes cpr image k entry
       → IsPrefixOf (image_part layout entry outcome.out) (image_part layout entry image)
   pub alone : (cpr image : List ℕ) (k : ℕ) (entry : BlockPlan) → IsBlockWithinBound layout settings.zones settings.form bytes cpr image k entry
@@ -99,7 +103,6 @@ GivesGoodSectors layout settings bytes out =
 pub record KeepsGoodFrames (settings : Settings) (bytes : List ℕ) (outcome : Outcome) : Type 0 where
   pub layout : Layout
   pub is_layout : IsLayoutOf settings layout
-  pub at_place : IsFaultless outcome.end → GivesGoodSectors layout settings bytes outcome.out
-  pub received : outcome.end ≡ ReadFault → GivesGoodSectors layout settings outcome.taken outcome.out
+  pub given : GivesWhatCame (GivesGoodSectors layout settings) bytes outcome
   pub begun : (cpr image : List ℕ) (k f : ℕ) (entry : BlockPlan) → IsGoodSector layout settings bytes cpr image k f entry
       → IsPrefixOf (sector_part entry f outcome.out) (sector_part entry f image)

@@ -2,12 +2,12 @@
 use Rattle.std.specs.Prelude.{◌≡◌, ℕ, ◌+◌, ◌*◌, ◌<◌, ◌≤◌, List, [], ◌∷◌, length, take, drop}
 use Rattle.cd_sector.specs.Laws.{IsCorrectableHalf}
 use Rattle.cd_sector.specs.Sector.{IsSector}
-use Rattle.dvd_loop.specs.Laws.{IsFaultless, IsPrefixOf}
+use Rattle.dvd_loop.specs.Laws.{IsPrefixOf}
 use Rattle.dvd_loop.specs.Machine.{Outcome, Step}
 use Rattle.dvd_loop.specs.Machine.Step.{Write}
-use Rattle.dvd_loop.specs.declared.ends.LoopEnd.TheVariants.{ReadFault}
 use Rattle.dvd_loop.specs.declared.ends.UnitKind.{UnitKind}
 use Rattle.dvd_loop.specs.declared.ends.UnitKind.TheVariants.{Good}
+use Rattle.dvd_commands.specs.Bound.{GivesWhatCame}
 use Rattle.dvd_commands.specs.CdRead.{IsSectorRead}
 use Rattle.dvd_words.specs.declared.settings.Settings.{Settings}
 
@@ -31,12 +31,10 @@ pub record IsCorrectableSector (settings : Settings) (bytes user : List ℕ) (k 
 abbrev pub GivesUserData : Settings → List ℕ → List ℕ → Type 0
 GivesUserData settings bytes out = (user : List ℕ) (k : ℕ) → IsCorrectableSector settings bytes user k → take 2048 (drop (2048 * k) out) ≡ user
 
--- The bound of `cdread`, whatever ended the run, for each sector within it: without a fault those of the input are
--- given back, and after a failed read those that came before it. After any other fault, what was written of one is a
--- prefix of its user data. Nothing else may be done for such a sector, so that no line names it.
+-- The bound of `cdread`, for each sector within it: those that came are given back, and whatever ended the run, what was
+-- written of one is a prefix of its user data. Nothing else may be done for such a sector, so that no line names it.
 pub record KeepsSectors (settings : Settings) (bytes : List ℕ) (outcome : Outcome) : Type 0 where
-  pub at_place : IsFaultless outcome.end → GivesUserData settings bytes outcome.out
-  pub received : outcome.end ≡ ReadFault → GivesUserData settings outcome.taken outcome.out
+  pub given : GivesWhatCame (GivesUserData settings) bytes outcome
   pub begun : (user : List ℕ) (k : ℕ) → IsCorrectableSector settings bytes user k → IsPrefixOf (take 2048 (drop (2048 * k) outcome.out)) user
   pub alone : (user : List ℕ) (k : ℕ) → IsCorrectableSector settings bytes user k
       → (steps : List Step) (kind : UnitKind) → IsSectorRead (settings.address + k) k (cd_sector_bytes bytes k) steps kind

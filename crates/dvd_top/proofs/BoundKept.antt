@@ -77,8 +77,7 @@ units_keep settings command layout is_layout wide total alone is bytes loop runs
     record {
       layout = layout;
       is_layout = is_layout;
-      at_place = any.at_place;
-      received = any.received;
+      given = any.given;
       begun = λ cpr image k entry b.
           part-begun any (image_bytes layout entry) (2048 * image_from entry.content) (image_part layout entry image) (any.gives cpr image k entry b);
       alone = λ cpr image k entry b steps kind does.

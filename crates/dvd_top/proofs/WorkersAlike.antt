@@ -71,8 +71,10 @@ module _ (workers : ℕ) where
   -- what is kept of CD-ROM sectors
   sectors_with : {settings : Settings} {bytes : List ℕ} {loop : Outcome} → KeepsSectors settings bytes loop → KeepsSectors (set_workers workers settings) bytes loop
   sectors_with keeps = record {
-    at_place = λ none user k b. keeps.at_place none user k (sector_back b);
-    received = λ failed user k b. keeps.received failed user k (sector_back b);
+    given = record {
+      at_place = λ none user k b. keeps.given.at_place none user k (sector_back b);
+      received = λ failed user k b. keeps.given.received failed user k (sector_back b);
+    };
     begun = λ user k b. keeps.begun user k (sector_back b);
     alone = λ user k b. keeps.alone user k (sector_back b);
   }

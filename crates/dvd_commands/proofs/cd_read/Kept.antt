@@ -150,8 +150,7 @@ kept_sectors settings bytes loop is goes =
     let (subject, has, runs) = subst (λ command. GoesBy (meaning command) settings bytes loop) is goes in
     let any = at_any_end (GivesUserData settings) units (cdread_total settings.address settings.sectors) (λ own a loops none. at_place settings own a loops none) bytes loop runs in
     record {
-      at_place = any.at_place;
-      received = any.received;
+      given = any.given;
       begun = λ user k b. part-begun any 2048 (2048 * k) user (any.gives user k b);
       alone = alone settings bytes;
     }

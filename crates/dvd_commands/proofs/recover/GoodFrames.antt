@@ -75,8 +75,7 @@ units_keep settings layout is_layout bytes loop runs =
     record {
       layout = layout;
       is_layout = is_layout;
-      at_place = any.at_place;
-      received = any.received;
+      given = any.given;
       begun = λ cpr image k f entry g.
           part-begun any 2048 (2048 * (image_from entry.content + f)) (sector_part entry f image) (any.gives cpr image k f entry g);
     }
