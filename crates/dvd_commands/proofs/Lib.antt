@@ -10,6 +10,7 @@ pub mod CapturedParts
 pub mod CapturedUnits
 pub mod EachCommand
 pub mod EntryBlocks
+pub mod Fetched
 pub mod ForRuns
 pub mod FrameBytes
 pub mod ImageInBlocks

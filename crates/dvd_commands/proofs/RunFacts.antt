@@ -1,20 +1,23 @@
 -- What the laws of whole runs rest on of each command. Its own page of facts gives it.
-use Rattle.std.proofs.Common.{◌≡◌, ◌<◌, ℕ, List, All, None, length, refl}
+use Rattle.std.proofs.Common.{◌≡◌, ◌<◌, ℕ, Bool, List, All, None, length, refl}
 use Rattle.dvd_capture.specs.declared.form.Form.{Form}
+use Rattle.dvd_layout.specs.Plan.{plan_of}
+use Rattle.dvd_layout.specs.declared.entry.BlockPlan.{BlockPlan}
 use Rattle.dvd_layout.specs.declared.layout.Layout.{Layout}
 use Rattle.dvd_layout.specs.declared.layout.Zones.{Zones}
 use Rattle.dvd_loop.specs.Machine.{IsOutcome, Outcome, Step, Units, sized}
+use Rattle.dvd_loop.specs.declared.ends.UnitKind.{UnitKind}
 use Rattle.dvd_loop.proofs.Totality.{Exists}
-use Rattle.dvd_commands.specs.Captured.{captured_part}
+use Rattle.dvd_commands.specs.Captured.{captured_part, image_units}
 use Rattle.dvd_commands.specs.CdMake.{HasAddresses}
 use Rattle.dvd_commands.specs.Commands.{meaning}
 use Rattle.dvd_commands.specs.Meaning.{GoesBy, Meaning, by_layout, by_settings}
 use Rattle.dvd_commands.proofs.FrameBytes.{HasBytes, IsByte}
-use Rattle.dvd_commands.proofs.OneRun.{RunsOnce, one_capture, one_run, once_by_layout}
-use Rattle.dvd_commands.proofs.OneThing.{MayOne}
+use Rattle.dvd_commands.proofs.OneRun.{RunsOnce, one_capture, one_closing, one_run, once_by_layout}
+use Rattle.dvd_commands.proofs.OneThing.{MayOne, image_is_one}
 use Rattle.dvd_commands.proofs.OtherWorkers.{layout_with, set_workers}
 use Rattle.dvd_commands.proofs.SomeRun.{captures_exist, runs_exist, some_by_layout}
-use Rattle.dvd_commands.proofs.SomeThing.{MaySome}
+use Rattle.dvd_commands.proofs.SomeThing.{MaySome, image_some, no_closing}
 use Rattle.dvd_words.specs.Settings.{broken_rule}
 use Rattle.dvd_words.specs.declared.table.Command.{Command}
 use Rattle.dvd_words.specs.declared.table.Command.TheVariants.{CdMake}
@@ -114,3 +117,17 @@ facts_of_captured units begins one one_closes some some_closes =
     let zones = settings.zones in
     let form = settings.form in
     captures_exist (units layout zones form) form (begins layout zones form) (some layout zones form) (some_closes layout zones form) bytes)
+
+-- Likewise those of which this is done for image: one thing alone, and something, may be done for each that holds any.
+pub facts_of_image : {Needs : Settings → Type 0} (Performs : Layout → ℕ → BlockPlan → List (List ℕ) → List (List Bool) → List Step → UnitKind → Type 0)
+    → ((layout : Layout) (k : ℕ) (entry : BlockPlan) (rows : List (List ℕ)) (marks : List (List Bool)) → length rows ≡ 208 → length marks ≡ 208
+    → MayOne (Performs layout k entry rows marks))
+    → ((layout : Layout) (k : ℕ) (entry : BlockPlan) (rows : List (List ℕ)) (marks : List (List Bool)) → length rows ≡ 208 → length marks ≡ 208
+    → MaySome (Performs layout k entry rows marks))
+    → MeaningFacts (by_layout (λ settings layout. image_units Performs layout settings.zones settings.form)) Needs
+facts_of_image Performs one some =
+    facts_of_captured (image_units Performs) (λ layout zones form k own. refl)
+    (λ layout zones form before own. image_is_one (plan_of layout zones) (Performs layout (length before)) (one layout (length before)) form (length before) own)
+    (λ layout zones form before. one_closing)
+    (λ layout zones form before own. image_some (plan_of layout zones) (Performs layout (length before)) (some layout (length before)) form (length before) own)
+    (λ layout zones form before all. no_closing)

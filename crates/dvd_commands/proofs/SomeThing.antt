@@ -1,5 +1,5 @@
 -- Something may be done for a unit: what the commands have in common.
-use Rattle.std.proofs.Common.{◌≡◌, ℕ, List, ◌∷◌, [], length, Bool, Some, refl, Option, ◌<◌}
+use Rattle.std.proofs.Common.{◌≡◌, ◌⊎◌, inl, inr, ℕ, List, ◌∷◌, [], length, Bool, Some, None, refl, Option, ◌<◌}
 use Rattle.dvd_capture.specs.Captured.{captured_marks, captured_rows}
 use Rattle.dvd_capture.specs.declared.form.Form.{Form}
 use Rattle.dvd_layout.specs.Place.{image_sectors}
@@ -7,7 +7,10 @@ use Rattle.dvd_layout.specs.declared.entry.BlockPlan.{BlockPlan}
 use Rattle.dvd_layout.specs.declared.entry.Content.{Content}
 use Rattle.dvd_layout.specs.declared.entry.Content.TheVariants.{Image}
 use Rattle.dvd_layout.specs.declared.layout.Layout.{Layout}
+use Rattle.dvd_layout.specs.declared.layout.Zones.{Zones}
+use Rattle.dvd_layout.specs.Plan.{plan_of}
 use Rattle.dvd_decoding.specs.declared.cause.Cause.{Cause}
+use Rattle.dvd_loop.specs.Laws.{AreTotal}
 use Rattle.dvd_loop.specs.Machine.{Step}
 use Rattle.dvd_loop.specs.Machine.Step.{Write, Report}
 use Rattle.dvd_loop.specs.declared.ends.UnitKind.{UnitKind}
@@ -15,8 +18,9 @@ use Rattle.dvd_decoding.specs.Salvage.{block_out, saved_in}
 use Rattle.dvd_report.specs.Lines.{damage_line}
 use Rattle.dvd_commands.specs.Recover.{IsRefused}
 use Rattle.dvd_commands.specs.Inner.Performing.{sectors_out}
-use Rattle.dvd_commands.specs.Captured.{ForImage, IfImage, IsDoneByEntry, IsPassedOver}
+use Rattle.dvd_commands.specs.Captured.{ForImage, IfImage, IsDoneByEntry, IsPassedOver, image_units}
 use Rattle.dvd_loop.specs.declared.ends.UnitKind.TheVariants.{Good, Bad}
+use Rattle.dvd_commands.proofs.CapturedBlocks.{blocks_total}
 use Rattle.dvd_commands.proofs.EntryBlocks.{length-captured_marks, length-captured_rows}
 use Rattle.dvd_commands.proofs.FrameBytes.{HasBytes}
 use Rattle.dvd_commands.proofs.PlanEntries.{some_entry}
@@ -63,6 +67,27 @@ refused_some has cause first layout k entry rows marks = (
   Bad,
   record { cause = cause; first = first; reports = refl; bad = refl },
 )
+
+-- so something may where it is read without a cause, and refused for one
+pub read_or_refused : {Reads : List Step → UnitKind → Type 0} (has : Option Cause) → (has ≡ None → MaySome Reads)
+    → (layout : Layout) (k : ℕ) (entry : BlockPlan) (rows : List (List ℕ)) (marks : List (List Bool)) (cause : Option Cause) → has ≡ cause
+    → MaySome (λ steps kind. Reads steps kind ⊎ IsRefused has layout k entry rows marks steps kind)
+read_or_refused has reads layout k entry rows marks None none =
+    let some = reads none in
+    (some.0, some.1, inl some.2)
+read_or_refused has reads layout k entry rows marks (Some cause) first =
+    let some = refused_some has cause first layout k entry rows marks in
+    (some.0, some.1, inr some.2)
+
+-- Units of which this is done for image are total where something may be done.
+pub image_total : (Performs : Layout → ℕ → BlockPlan → List (List ℕ) → List (List Bool) → List Step → UnitKind → Type 0)
+    → ((layout : Layout) (k : ℕ) (entry : BlockPlan) (rows : List (List ℕ)) (marks : List (List Bool)) → length rows ≡ 208 → length marks ≡ 208
+    → MaySome (Performs layout k entry rows marks))
+    → (layout : Layout) (zones : Zones) (form : Form) → AreTotal (image_units Performs layout zones form)
+image_total Performs some layout zones form =
+    blocks_total (image_units Performs layout zones form) form (λ k own. refl)
+    (λ before own lt whole. image_some (plan_of layout zones) (Performs layout (length before)) (some layout (length before)) form (length before) own lt)
+    (λ before all. no_closing)
 
 -- something may be done for each of so many units of given sizes
 abbrev pub MayEach : ℕ → (ℕ → ℕ) → (ℕ → List ℕ → List Step → UnitKind → Type 0) → Type 0

@@ -5,9 +5,12 @@ use Rattle.dvd_capture.specs.Captured.{block_size, captured_marks, captured_rows
 use Rattle.dvd_capture.specs.Listed.{end_of, length_of, listed_size, run_count, start_of}
 use Rattle.dvd_capture.specs.declared.form.Form.{Form}
 use Rattle.dvd_capture.specs.declared.form.Form.TheVariants.{Plain, Marked, Listed}
+use Rattle.dvd_layout.specs.Plan.{plan_of}
 use Rattle.dvd_layout.specs.declared.entry.BlockPlan.{BlockPlan}
 use Rattle.dvd_layout.specs.declared.entry.Content.{Content}
 use Rattle.dvd_layout.specs.declared.entry.Content.TheVariants.{Zero, Reference, Control, Image}
+use Rattle.dvd_layout.specs.declared.layout.Layout.{Layout}
+use Rattle.dvd_layout.specs.declared.layout.Zones.{Zones}
 use Rattle.dvd_loop.specs.Machine.{Prefix, Step, Units, sized}
 use Rattle.dvd_loop.specs.Machine.Prefix.{Whole, Broken}
 use Rattle.dvd_loop.specs.declared.ends.AfterLast.TheVariants.{EndOfInput}
@@ -110,3 +113,8 @@ IfImage Performs Control steps kind = IsPassedOver steps kind
 -- the same by the entry of a block, and by its rows and marks
 abbrev pub ForImage : (BlockPlan → List (List ℕ) → List (List Bool) → List Step → UnitKind → Type 0) → BlockPlan → List (List ℕ) → List (List Bool) → List Step → UnitKind → Type 0
 ForImage Performs entry rows marks = IfImage (Performs entry rows marks) entry.content
+
+-- the captured blocks of a plan, where this is done for each that holds image, by its layout and its number
+abbrev pub image_units : (Layout → ℕ → BlockPlan → List (List ℕ) → List (List Bool) → List Step → UnitKind → Type 0) → Layout → Zones → Form → Units
+image_units Performs layout zones form =
+    captured_units (length (plan_of layout zones)) form (λ k. IsDoneByEntry (plan_of layout zones) (ForImage (Performs layout k)) form k)

@@ -1,7 +1,7 @@
 -- The command `deep` (ours): as `recover`, but a block that two passes refuse is read by up to four rounds. Where a
 -- round gives it back and its frames are right, a line is reported with the block and the round. After it its image
 -- sectors are written.
-use Rattle.std.specs.Prelude.{◌≡◌, ◌⊎◌, ℕ, Bool, None, Some, List, [], ◌∷◌, ◌++◌, length, take}
+use Rattle.std.specs.Prelude.{◌≡◌, ◌⊎◌, ℕ, Bool, None, Some, List, [], ◌∷◌, ◌++◌, take}
 use Rattle.std.specs.List.{flat_map}
 use Rattle.std.specs.declared.option.Option.{Option}
 use Rattle.coding.specs.TwoPass.{answers_of}
@@ -19,7 +19,7 @@ use Rattle.dvd_loop.specs.declared.ends.UnitKind.TheVariants.{Good}
 use Rattle.dvd_decoding.specs.Causes.{two_pass_cause}
 use Rattle.dvd_decoding.specs.declared.cause.Cause.{Cause}
 use Rattle.dvd_report.specs.Lines.{round_line}
-use Rattle.dvd_commands.specs.Captured.{ForImage, IsDoneByEntry, captured_units}
+use Rattle.dvd_commands.specs.Captured.{ForImage, IsDoneByEntry, image_units}
 use Rattle.dvd_commands.specs.Recover.{IsRefused}
 use Rattle.dvd_commands.specs.Meaning.{Meaning, by_layout}
 
@@ -48,7 +48,7 @@ IsDeepened layout zones form k = IsDoneByEntry (plan_of layout zones) (ForImage 
 
 -- the units are the captured blocks of the plan
 abbrev pub deep_units : Layout → Zones → Form → Units
-deep_units layout zones form = captured_units (length (plan_of layout zones)) form (IsDeepened layout zones form)
+deep_units = image_units IsImageRead
 
 -- the meaning of `deep`: its layout has to break no rule
 abbrev pub deep_meaning : Meaning

@@ -1,7 +1,8 @@
 -- What a command does before its closing line: how its loop ended, or why it doesn't begin.
 use Rattle.std.specs.Prelude.{◌≡◌, Result, Ok, Err, None, Some}
-use Rattle.dvd_loop.specs.Streams.{HasEnded, Streams}
+use Rattle.dvd_loop.specs.Streams.{HasEnded, Streams, streams}
 use Rattle.dvd_loop.specs.declared.ends.LoopEnd.{LoopEnd}
+use Rattle.dvd_ports.specs.Seen.{Seen}
 use Rattle.dvd_commands.specs.Commands.{GoesOver, breaks, meaning}
 use Rattle.dvd_commands.specs.Opening.{Opens}
 use Rattle.dvd_words.specs.declared.settings.Settings.{Settings}
@@ -37,3 +38,8 @@ IsRefusalOfWords settings NoMemory = (meaning settings.command).breaks settings 
 abbrev pub IsPerformedByWords : Settings → Streams → Streams → Result LoopEnd Refusal → Type 0
 IsPerformedByWords settings old new (Ok end) = HasGoneOver settings old new end
 IsPerformedByWords settings old new (Err refusal) = IsRefusalOfWords settings refusal
+
+-- what a command that writes no report does, by its streams: beside any report, which stays as it is
+abbrev pub BesideAnyReport : (Streams → Streams → Result LoopEnd Refusal → Type 0) → Seen → Seen → Seen → Seen → Result LoopEnd Refusal → Type 0
+BesideAnyReport Does source output new_source new_output answer =
+    (report : Seen) → Does (streams source output report) (streams new_source new_output report) answer

@@ -2,7 +2,7 @@
 -- a block and its frames are right, its image sectors are written. Otherwise a line is reported with the block, its
 -- first cause and how many frames are salvaged. After it the image sectors are written: those of the frames that are
 -- right by themselves, and zeros for the others.
-use Rattle.std.specs.Prelude.{◌≡◌, ◌⊎◌, ℕ, Bool, Option, Some, List, [], ◌∷◌, length, take, ◌+◌, ◌*◌, ◌<◌}
+use Rattle.std.specs.Prelude.{◌≡◌, ◌⊎◌, ℕ, Bool, Option, Some, List, [], ◌∷◌, take, ◌+◌, ◌*◌, ◌<◌}
 use Rattle.std.specs.List.{flat_map}
 use Rattle.dvd_capture.specs.declared.form.Form.{Form}
 use Rattle.dvd_layout.specs.Place.{image_sectors}
@@ -18,7 +18,7 @@ use Rattle.dvd_decoding.specs.Reading.{IsReadAs, block_cause}
 use Rattle.dvd_decoding.specs.Salvage.{block_out, saved_in}
 use Rattle.dvd_decoding.specs.declared.cause.Cause.{Cause}
 use Rattle.dvd_report.specs.Lines.{damage_line}
-use Rattle.dvd_commands.specs.Captured.{ForImage, IsDoneByEntry, captured_units}
+use Rattle.dvd_commands.specs.Captured.{ForImage, IsDoneByEntry, image_units}
 use Rattle.dvd_commands.specs.Meaning.{Meaning, by_layout}
 use Rattle.coding.specs.Product.{line}
 use Rattle.dvd_capture.specs.Answers.{marks_line}
@@ -50,7 +50,7 @@ IsRecovered layout zones form k = IsDoneByEntry (plan_of layout zones) (ForImage
 
 -- the units are the captured blocks of the plan
 abbrev pub recover_units : Layout → Zones → Form → Units
-recover_units layout zones form = captured_units (length (plan_of layout zones)) form (IsRecovered layout zones form)
+recover_units = image_units IsImageDone
 
 -- the twelve rows of frame f are good against the block that was recorded: none of them is bad or lost
 abbrev pub HasGoodRows : List (List ℕ) → List (List ℕ) → List (List Bool) → ℕ → Type 0

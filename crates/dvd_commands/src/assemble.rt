@@ -26,11 +26,12 @@ ghost use Rattle.dvd_commands.specs.Assemble.{IsAssembleEnd, IsShelfOf, assemble
 ghost use Rattle.dvd_commands.specs.Performed.{IsPerformedByWords};
 ghost use Rattle.dvd_words.specs.Settings.{IsLayoutOf};
 
-use crate::refusal::Refusal;
+use crate::captured::fetched;
+use crate::refusal::Begun;
 use crate::start::Start;
 use crate::unit::line_reported;
 use dvd_assemble::{FrameWork, Shelf, fetch_frame};
-use dvd_capture::{FetchAnswer, Form};
+use dvd_capture::Form;
 use dvd_layout::{Layout, Zones};
 use dvd_loop::{AfterLast, LoopEnd, Processed, UnitCommand, UnitKind, run_units};
 use dvd_ports::{Sink, Source, WriteFault, write_whole};
@@ -142,7 +143,7 @@ pub(crate) fn run_assemble<S: Source, K: Sink, E: Sink>(
     src: &mut S,
     out: &mut K,
     report: &mut E,
-) -> Result<LoopEnd, Refusal>
+) -> Begun
     requires command { start.now.settings.now.command ≡ Command.Assemble }
     requires form { HasSize start.now.settings.now.form }
     requires few { start.now.settings.now.sectors + start.now.settings.now.sectors1 ≤ 16384 }
@@ -162,9 +163,8 @@ pub(crate) fn run_assemble<S: Source, K: Sink, E: Sink>(
 }
 
 // Reads frame `k`, or answers how the loop ends within it.
-// `fetch_frame` knows no loop, so its answers become ends here, which name the frame. A frame that isn't whole leaves
-// the one before in the buffer, and the loop ends. Plain and marked frames break no rule, so `BadMarks` doesn't come:
-// its arm is there because the answer is that of captured blocks too.
+// A frame that isn't whole leaves the one before in the buffer, and the loop ends. Plain and marked frames break no
+// rule, so `BadMarks` doesn't come.
 fn read_frame<S: Source>(
     src: &mut S,
     k: u32,
@@ -176,13 +176,7 @@ fn read_frame<S: Source>(
     ensures short { IfErr result (EndsShort k (frame_size form) (S.seen src.old) (S.seen src.new)) }
     ensures causes { HasReadCause result (S.seen src.old) (S.seen src.new) }
 {
-    match fetch_frame(src, form, frame) {
-        FetchAnswer::Full => Ok(()),
-        FetchAnswer::End => Err(LoopEnd::Short { unit: k, bytes: 0 }),
-        FetchAnswer::Short { bytes } => Err(LoopEnd::Short { unit: k, bytes }),
-        FetchAnswer::ReadFault => Err(LoopEnd::ReadFault),
-        FetchAnswer::BadMarks { at } => Err(LoopEnd::BadMarks { block: k, at }),
-    }
+    fetched(fetch_frame(src, form, frame), k)
 }
 
 // Joins a frame to its home. Answers 1, or 0 for a stray, which changes nothing: a number, since the caller adds it up.

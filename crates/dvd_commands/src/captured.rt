@@ -5,7 +5,7 @@
 //! `AreDone` says which steps, writes and lines, are done for a unit; where a call fails, only a first part of them is.
 //! Clauses `causes` say by the counts of a stream that the call that failed, where one did, was its last. Where a
 //! stream isn't handed to a function, the clause is of any (`source`, `report`), which stays as it is.
-ghost use Rattle.std.specs.Prelude.{IfErr, OnOk};
+ghost use Rattle.std.specs.Prelude.{◌≡◌, IfErr, OnOk};
 ghost use Rattle.dvd_capture.specs.Captured.{Captures};
 ghost use Rattle.dvd_capture.specs.Rule.{HasAnswers, HasBlock};
 ghost use Rattle.dvd_capture.specs.Works.{rows_of, marks_of_work, sectors_of, stage_of};
@@ -14,7 +14,7 @@ ghost use Rattle.dvd_layout.specs.Place.{HasNumbers, image_sectors};
 ghost use Rattle.dvd_loop.specs.UnitCommand.{AreDone, HasReadCause};
 ghost use Rattle.dvd_ports.specs.Seen.{Seen};
 ghost use Rattle.dvd_ports.specs.Whole.{IsWritten};
-ghost use Rattle.dvd_commands.specs.Inner.Performing.{EndsCaptured, IsRefusedFor, WritesAlone, sectors_out};
+ghost use Rattle.dvd_commands.specs.Inner.Performing.{EndsCaptured, IsRefusedFor, WritesAlone, fetched, sectors_out};
 
 use crate::unit::{line_reported, unit_written};
 use dvd_capture::{FetchAnswer, Form, Work, fetch};
@@ -33,10 +33,23 @@ pub(crate) struct Planned<'a> {
     pub entry: &'a BlockPlan,
 }
 
-/// Reads captured block `k`, or answers how the loop ends within it.
-/// `fetch` knows no loop, so its answers become ends here, which name the block. `End` is an input that ended between
-/// two blocks, and so `Short` with 0 bytes. Where the block isn't whole, the work has none. Marks break a rule in the
-/// listed form alone, and `at` is the byte of the block where the field that breaks it begins.
+/// How the loop goes on where this was answered of unit `k`, a block or a frame: those who read it know no loop, so
+/// their answers become ends here, which name the unit. `End` is an input that ended between two units, and so `Short`
+/// with 0 bytes.
+pub(crate) fn fetched(answer: FetchAnswer, k: u32) -> Result<(), LoopEnd>
+    ensures { result ≡ fetched answer k }
+{
+    match answer {
+        FetchAnswer::Full => Ok(()),
+        FetchAnswer::End => Err(LoopEnd::Short { unit: k, bytes: 0 }),
+        FetchAnswer::Short { bytes } => Err(LoopEnd::Short { unit: k, bytes }),
+        FetchAnswer::ReadFault => Err(LoopEnd::ReadFault),
+        FetchAnswer::BadMarks { at } => Err(LoopEnd::BadMarks { block: k, at }),
+    }
+}
+
+/// Reads captured block `k`, or answers how the loop ends within it. Where the block isn't whole, the work has none.
+/// Marks break a rule in the listed form alone, at the byte of the block where the field that breaks it begins.
 pub(crate) fn fetch_block<S: Source>(
     src: &mut S,
     k: u32,
@@ -48,13 +61,7 @@ pub(crate) fn fetch_block<S: Source>(
     ensures ended { IfErr result (EndsCaptured form k (S.seen src.old) (S.seen src.new)) }
     ensures causes { HasReadCause result (S.seen src.old) (S.seen src.new) }
 {
-    match fetch(src, form, work) {
-        FetchAnswer::Full => Ok(()),
-        FetchAnswer::End => Err(LoopEnd::Short { unit: k, bytes: 0 }),
-        FetchAnswer::Short { bytes } => Err(LoopEnd::Short { unit: k, bytes }),
-        FetchAnswer::ReadFault => Err(LoopEnd::ReadFault),
-        FetchAnswer::BadMarks { at } => Err(LoopEnd::BadMarks { block: k, at }),
-    }
+    fetched(fetch(src, form, work), k)
 }
 
 /// Reports the line of a block that is refused for this cause, and writes its image sectors: those that are salvaged,

@@ -15,13 +15,13 @@ ghost use Rattle.dvd_loop.specs.Machine.{IsOutcome};
 ghost use Rattle.dvd_loop.specs.Streams.{streams, HasEnded};
 ghost use Rattle.dvd_ports.specs.Seen.{Seen};
 ghost use Rattle.dvd_commands.specs.Convert.{Converts, convert_units};
-ghost use Rattle.dvd_commands.specs.Performed.{IsPerformedByWords};
+ghost use Rattle.dvd_commands.specs.Performed.{BesideAnyReport, IsPerformedByWords};
 ghost use Rattle.dvd_words.specs.Settings.{IsLayoutOf};
 
 use crate::blocks::Blocks;
 use crate::captured::fetch_block;
 use crate::opening::header_of;
-use crate::refusal::Refusal;
+use crate::refusal::Begun;
 use crate::start::Start;
 use dvd_capture::{Form, Header, Work, write_listed};
 use dvd_layout::Layout;
@@ -118,19 +118,13 @@ pub fn convert_loop<S: Source, K: Sink>(
 
 /// The command with its buffers, or why it doesn't begin. The layout is tried before memory is taken: a broken rule is
 /// what a user can put right.
-pub(crate) fn run_convert<S: Source, K: Sink>(
-    start: &Start<'_>,
-    src: &mut S,
-    out: &mut K,
-) -> Result<LoopEnd, Refusal>
+pub(crate) fn run_convert<S: Source, K: Sink>(start: &Start<'_>, src: &mut S, out: &mut K) -> Begun
     requires command { start.now.settings.now.command ≡ Command.Convert }
     requires form { HasSize start.now.settings.now.form }
-    ensures performed { (report : Seen) → IsPerformedByWords start.now.settings.now
-        (streams (S.seen src.old) (K.seen out.old) report) (streams (S.seen src.new) (K.seen out.new) report) result }
+    ensures performed { BesideAnyReport (IsPerformedByWords start.now.settings.now) (S.seen src.old) (K.seen out.old) (S.seen src.new) (K.seen out.new) result }
     ensures untouched { IsErr result → (src.new ≡ src.old) × (out.new ≡ out.old) }
 {
-    let settings = start.settings;
-    let layout = settings.layout()?;
+    let layout = start.settings.layout()?;
     let mut work = Work::new(start.alloc)?;
-    Ok(convert_loop(settings, &layout, &mut work, src, out))
+    Ok(convert_loop(start.settings, &layout, &mut work, src, out))
 }

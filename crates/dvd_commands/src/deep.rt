@@ -1,5 +1,5 @@
 //! The command `deep`: image sectors from a stream of captured blocks, by rounds where two passes refuse a block.
-//! It repeats the form of `recover`, so that who reads one doesn't need the other.
+//! It goes over its blocks by `Imaging`, as `recover` does, and differs in how it gives one that holds image.
 //!
 //! A round is one step over the rows of a block and one over its columns; there are at most four. `Deep` is the memory
 //! of rounds, and `Piece` that of the sixteen sectors which they give. `Work` is that of the captured block, whose
@@ -11,81 +11,74 @@
 //! holds a received block, and `HasNumbers` that the sector numbers of an entry have 24 bits. `AreDone` says which
 //! steps, writes and lines, are done for a unit; where a call fails, only a first part of them is. The clause of a
 //! function that isn't handed the source is of any (`source`), which stays as it is.
-ghost use Rattle.std.specs.Prelude.{◌≡◌, length, Some, IfErr, IfOk, IsErr, refl};
+ghost use Rattle.std.specs.Prelude.{◌≡◌, length, Some, IfErr, IfOk, IsErr};
 ghost use Rattle.dvd_ports.specs.Seen.{Seen};
 ghost use Rattle.dvd_block.specs.Buffers.{piece_bytes};
 ghost use Rattle.dvd_capture.specs.Rule.{HasBlock};
 ghost use Rattle.dvd_capture.specs.Works.{rows_of, marks_of_work, stage_of};
-ghost use Rattle.dvd_capture.specs.declared.form.Form.{Form as CaptureForm};
 ghost use Rattle.dvd_deep.specs.Reading.{deep_cause};
 ghost use Rattle.dvd_layout.specs.Place.{HasNumbers};
 ghost use Rattle.dvd_layout.specs.Plan.{plan_of};
 ghost use Rattle.dvd_layout.specs.declared.layout.Layout.{Layout as DiskLayout};
-ghost use Rattle.dvd_layout.specs.declared.layout.Zones.{Zones as WhichZones};
 ghost use Rattle.dvd_loop.specs.Machine.{IsOutcome};
 ghost use Rattle.dvd_loop.specs.Streams.{streams, HasEnded};
 ghost use Rattle.dvd_loop.specs.UnitCommand.{AreDone};
 ghost use Rattle.dvd_loop.specs.declared.ends.UnitKind.TheVariants.{Good};
 ghost use Rattle.dvd_decoding.specs.Reading.{block_cause};
 ghost use Rattle.dvd_report.specs.Lines.{round_line};
-ghost use Rattle.dvd_commands.specs.Captured.{ForImage, IsCaptureEnd};
+ghost use Rattle.dvd_commands.specs.Captured.{IsCaptureEnd};
 ghost use Rattle.dvd_commands.specs.Deep.{IsImageRead, deep_units};
 ghost use Rattle.dvd_commands.specs.Performed.{IsPerformed};
 ghost use Rattle.dvd_commands.specs.Inner.Performing.{IsFoundBy, ReportsAndWrites};
 ghost use Rattle.dvd_words.specs.Settings.{IsLayoutOf};
 
 use crate::blocks::Blocks;
-use crate::captured::{Planned, fetch_block, refuse_block, write_each, write_image};
+use crate::captured::{Planned, refuse_block, write_each, write_image};
+use crate::imaging::{GivesImage, Imaging};
 use crate::opening::{layout_from_arguments, open_blocks};
-use crate::refusal::Refusal;
+use crate::refusal::Begun;
 use crate::start::Start;
 use crate::unit::{line_reported, unit_written};
 use dvd_block::Piece;
-use dvd_capture::{Form, Work};
+use dvd_capture::Work;
 use dvd_deep::Deep;
-use dvd_layout::{BlockPlan, Content, Layout};
-use dvd_loop::{LoopEnd, PlainCommand, Processed, UnitKind, run_plain};
+use dvd_layout::{BlockPlan, Layout};
+use dvd_loop::{LoopEnd, Processed, UnitKind, run_plain};
 use dvd_ports::{Sink, Source};
 use dvd_read::{Cause, read_block};
 use dvd_report::write_round;
 use dvd_words::{Command, Settings};
 
-/// Its blocks, in the order of the plan, and the memory of one block and of its rounds.
+/// The memory of the rounds of a block.
 #[derive(Drop)]
 struct Deepening<'a> {
-    blocks: Blocks,
-    form: Form,
     deep: &'a mut Deep,
     piece: &'a mut Piece,
-    work: &'a mut Work,
 }
 
-// The clauses of these methods are in the trait: for block `k` they do what `deep_units` says, and nothing opens or
-// closes the units (`alone`). `key` is what the units depend on; no method changes it. A `PlainCommand` has units that
-// don't depend on each other; `Processed` is the kind of one, or how the loop ends in it.
-impl<'a, S: Source, K: Sink, E: Sink> PlainCommand<S, K, E> for Deepening<'a> {
-    ghost Key = { DiskLayout × WhichZones × CaptureForm };
+// The clauses are in the trait.
+impl<'a, K: Sink, E: Sink> GivesImage<K, E> for Deepening<'a> {
+    ghost May = { IsImageRead };
 
-    ghost key = { λ r. (r.blocks.layout, r.blocks.zones, r.form) };
-
-    ghost units = { λ key. deep_units key.0 key.1 key.2 };
-
-    ghost alone = { λ _. record { opens = refl; closes = λ _. refl; after_last = refl } };
-
-    fn count(&self) -> u32 {
-        self.blocks.count()
-    }
-
-    // Each block is read whole, even one without image, since the next begins after it.
-    fn process(&mut self, k: u32, src: &mut S, out: &mut K, report: &mut E) -> Processed {
-        let entry = self.blocks.at(k);
-        fetch_block(src, k, self.form, self.work)?;
-        let block = Planned {
-            layout: &self.blocks.layout,
-            k,
-            entry: &entry,
-        };
-        deep_block(&block, self.deep, self.piece, self.work, out, report)
+    // Writes the sectors of a block, after the line of its round where two passes refused it. Or reports its cause, and
+    // writes those that are salvaged and zeros for the others.
+    fn give(&mut self, block: &Planned, work: &mut Work, out: &mut K, report: &mut E) -> Processed {
+        let entry = block.entry;
+        match read_block(work, entry) {
+            // What was fixed isn't reported: a block that two passes determine has no line.
+            Ok(_) => write_image(block, work, UnitKind::Good, out),
+            // Rounds are for refused blocks alone: one that two passes determine is given as `recover` gives it.
+            Err(cause) => match search_block(entry, cause, self.deep, work, self.piece) {
+                // The image's last block may have fewer than sixteen sectors, the first of the piece: the rest isn't
+                // written.
+                Ok(round) => {
+                    let count = block.layout.image_sectors(entry.content);
+                    let sectors = &self.piece.bytes()[..2048 * count];
+                    give_back(block.k, entry, round, sectors, out, report)
+                }
+                Err(cause) => refuse_block(block, &cause, work, out, report),
+            },
+        }
     }
 }
 
@@ -111,14 +104,13 @@ pub fn deep_loop<S: Source, K: Sink, E: Sink>(
         (streams (S.seen src.new) (K.seen out.new) (E.seen report.new)) result }
     ensures ends { IsCaptureEnd settings.now.form (length (plan_of layout.now settings.now.zones)) result }
 {
-    let deepening = Deepening {
+    let deepening = Imaging {
         blocks: Blocks {
             layout: *layout,
             zones: settings.zones,
         },
         form: settings.form,
-        deep,
-        piece,
+        command: Deepening { deep, piece },
         work,
     };
     run_plain(deepening, src, out, report)
@@ -131,7 +123,7 @@ pub(crate) fn run_deep<S: Source, K: Sink, E: Sink>(
     src: &mut S,
     out: &mut K,
     report: &mut E,
-) -> Result<LoopEnd, Refusal>
+) -> Begun
     requires { start.now.settings.now.command ≡ Command.Deep }
     ensures performed { IsPerformed start.now.settings.now
         (streams (S.seen src.old) (K.seen out.old) (E.seen report.old))
@@ -157,44 +149,6 @@ pub(crate) fn run_deep<S: Source, K: Sink, E: Sink>(
         )),
         // The run ended in the header of its input. It did begin, so this is an end and no refusal.
         Err(end) => Ok(end),
-    }
-}
-
-// Reads a block of image sectors and writes them, after the line of its round where two passes refused it. Or it
-// reports its cause, and writes those that are salvaged and zeros for the others. Any other block is passed over,
-// undecoded: nothing of it goes to the image. The contents are listed by name, so that a new one has to be thought of.
-fn deep_block<K: Sink, E: Sink>(
-    block: &Planned<'_>,
-    deep: &mut Deep,
-    piece: &mut Piece,
-    work: &mut Work,
-    out: &mut K,
-    report: &mut E,
-) -> Processed
-    requires numbers { HasNumbers block.now.entry.now }
-    requires stage { HasBlock (stage_of work.old) }
-    ensures { (source : Seen) → AreDone (ForImage (IsImageRead block.now.layout.now block.now.k) block.now.entry.now (rows_of work.old) (marks_of_work work.old))
-        (streams source (K.seen out.old) (E.seen report.old)) (streams source (K.seen out.new) (E.seen report.new)) result }
-{
-    let entry = block.entry;
-    match entry.content {
-        Content::Image(_) => {}
-        Content::Zero | Content::Reference | Content::Control => return Ok(UnitKind::Good),
-    }
-    match read_block(work, entry) {
-        // What was fixed isn't reported: a block that two passes determine has no line.
-        Ok(_) => write_image(block, work, UnitKind::Good, out),
-        // Rounds are for refused blocks alone: one that two passes determine is given as `recover` gives it.
-        Err(cause) => match search_block(entry, cause, deep, work, piece) {
-            // The image's last block may have fewer than sixteen sectors, the first of the piece: the rest isn't
-            // written.
-            Ok(round) => {
-                let count = block.layout.image_sectors(entry.content);
-                let sectors = &piece.bytes()[..2048 * count];
-                give_back(block.k, entry, round, sectors, out, report)
-            }
-            Err(cause) => refuse_block(block, &cause, work, out, report),
-        },
     }
 }
 

@@ -32,12 +32,12 @@ ghost use Rattle.dvd_read.specs.Calls.{IsBlockRead};
 ghost use Rattle.dvd_decoding.specs.Reading.{block_cause, IsReadAs};
 ghost use Rattle.dvd_commands.specs.Exercise.{IsLeft, drawn_sector, drawn_sectors, exercise_line, exercise_units, no_marks, state_at};
 ghost use Rattle.dvd_commands.specs.Master.{frames_of};
+ghost use Rattle.dvd_commands.specs.Performed.{BesideAnyReport, IsPerformedByWords};
 ghost use Rattle.dvd_commands.specs.Inner.Exercising.{CountsOne, HaveBeenTried, IsDiskOf, are_sectors};
-ghost use Rattle.dvd_commands.specs.Performed.{IsPerformedByWords};
 ghost use Rattle.dvd_commands.specs.Inner.Workers.{IsAdder, IsReader, MayRead, MayWork};
 
 use crate::master::{Mastered, fill_block};
-use crate::refusal::Refusal;
+use crate::refusal::Begun;
 use crate::start::Start;
 use crate::workers::{Workers, read_by};
 use dvd_block::{Block, Piece};
@@ -305,13 +305,12 @@ pub(crate) fn run_exercise<R: Threads + Sync, S: Source, K: Sink, G: Gate>(
     start: &Start<'_>,
     src: &mut S,
     out: &mut K,
-) -> Result<LoopEnd, Refusal>
+) -> Begun
     requires command { start.now.settings.now.command ≡ Command.Exercise }
     requires some { 1 ≤ start.now.settings.now.blocks }
     requires few { start.now.settings.now.blocks ≤ 4096 }
     requires workers { (1 ≤ start.now.settings.now.workers) × (start.now.settings.now.workers ≤ 16) }
-    ensures performed { (report : Seen) → IsPerformedByWords start.now.settings.now
-        (streams (S.seen src.old) (K.seen out.old) report) (streams (S.seen src.new) (K.seen out.new) report) result }
+    ensures performed { BesideAnyReport (IsPerformedByWords start.now.settings.now) (S.seen src.old) (K.seen out.old) (S.seen src.new) (K.seen out.new) result }
     ensures untouched { IsErr result → (src.new ≡ src.old) × (out.new ≡ out.old) }
 {
     let mut block = Block::new(start.alloc)?;

@@ -22,13 +22,13 @@ ghost use Rattle.dvd_commands.specs.Captured.{IsSoughtEnd};
 ghost use Rattle.dvd_commands.specs.Commands.{GoesOver};
 ghost use Rattle.dvd_commands.specs.Opening.{IsOpened};
 ghost use Rattle.dvd_commands.specs.Info.{IsAsked, IsControlDone, info_units};
-ghost use Rattle.dvd_commands.specs.Performed.{IsPerformed};
+ghost use Rattle.dvd_commands.specs.Performed.{BesideAnyReport, IsPerformed};
 ghost use Rattle.dvd_commands.specs.Inner.Performing.{AnswersNothing, GivesFormat};
 
 use crate::captured::fetch_block;
 use crate::format::format_lines;
 use crate::opening::{open_listed, worded_initial};
-use crate::refusal::Refusal;
+use crate::refusal::Begun;
 use crate::start::Start;
 use dvd_capture::{Form, Work};
 use dvd_control::PhysicalFormat;
@@ -119,14 +119,9 @@ pub fn info_loop<S: Source, K: Sink>(
 
 /// The command with its buffers, or why it doesn't begin.
 /// Memory is taken before the header of a listed capture is read, so a command that doesn't begin has read nothing.
-pub(crate) fn run_info<S: Source, K: Sink>(
-    start: &Start<'_>,
-    src: &mut S,
-    out: &mut K,
-) -> Result<LoopEnd, Refusal>
+pub(crate) fn run_info<S: Source, K: Sink>(start: &Start<'_>, src: &mut S, out: &mut K) -> Begun
     requires { start.now.settings.now.command ≡ Command.Info }
-    ensures performed { (report : Seen) → IsPerformed start.now.settings.now
-        (streams (S.seen src.old) (K.seen out.old) report) (streams (S.seen src.new) (K.seen out.new) report) result }
+    ensures performed { BesideAnyReport (IsPerformed start.now.settings.now) (S.seen src.old) (K.seen out.old) (S.seen src.new) (K.seen out.new) result }
     ensures untouched { IsErr result → (src.new ≡ src.old) × (out.new ≡ out.old) }
 {
     let settings = start.settings;

@@ -16,6 +16,7 @@ mod dispatch; // which command runs
 mod exercise; // blocks that are drawn, damaged and read back
 mod format; // the lines of a physical format
 mod frames; // a scrambled data frame for each sector
+mod imaging; // what `recover` and `deep` have in common: image sectors of captured blocks are written
 mod info; // the physical format in the lead-in of a disk
 pub mod laws; // what holds of what each command does
 mod making; // what `frames` and `cdmake` have in common: something is made of each sector

@@ -22,12 +22,12 @@ ghost use Rattle.dvd_loop.specs.Streams.{streams, HasEnded};
 ghost use Rattle.dvd_loop.specs.UnitCommand.{EndsShort, HasReadCause};
 ghost use Rattle.dvd_ports.specs.Seen.{Seen};
 ghost use Rattle.dvd_commands.specs.Master.{cpr_in, frame_for, frames_of, image_bytes, main_for, master_units};
-ghost use Rattle.dvd_commands.specs.Performed.{IsPerformedByWords};
+ghost use Rattle.dvd_commands.specs.Performed.{BesideAnyReport, IsPerformedByWords};
 ghost use Rattle.dvd_commands.specs.Inner.Workers.{IsAdder, MayWork};
 ghost use Rattle.dvd_words.specs.Settings.{IsLayoutOf};
 
 use crate::blocks::Blocks;
-use crate::refusal::Refusal;
+use crate::refusal::Begun;
 use crate::start::Start;
 use crate::unit::unit_written;
 use crate::workers::{Workers, add_by};
@@ -137,20 +137,18 @@ pub(crate) fn run_master<R: Threads + Sync, S: Source, K: Sink, G: Gate>(
     start: &Start<'_>,
     src: &mut S,
     out: &mut K,
-) -> Result<LoopEnd, Refusal>
+) -> Begun
     requires command { start.now.settings.now.command ≡ Command.Master }
     requires workers { (1 ≤ start.now.settings.now.workers) × (start.now.settings.now.workers ≤ 16) }
-    ensures performed { (report : Seen) → IsPerformedByWords start.now.settings.now
-        (streams (S.seen src.old) (K.seen out.old) report) (streams (S.seen src.new) (K.seen out.new) report) result }
+    ensures performed { BesideAnyReport (IsPerformedByWords start.now.settings.now) (S.seen src.old) (K.seen out.old) (S.seen src.new) (K.seen out.new) result }
     ensures untouched { IsErr result → (src.new ≡ src.old) × (out.new ≡ out.old) }
 {
-    let settings = start.settings;
-    let layout = settings.layout()?;
+    let layout = start.settings.layout()?;
     let mut block = Block::new(start.alloc)?;
     let mut piece = Piece::new(start.alloc)?;
     Ok(master_loop(
         workers.rt,
-        settings,
+        start.settings,
         &layout,
         workers.gate,
         &mut block,

@@ -18,12 +18,12 @@ ghost use Rattle.dvd_loop.specs.UnitCommand.{EndsShort, HasReadCause};
 ghost use Rattle.dvd_merge.specs.Merges.{table_of};
 ghost use Rattle.dvd_ports.specs.Seen.{Seen};
 ghost use Rattle.dvd_commands.specs.Merge.{merge_units};
-ghost use Rattle.dvd_commands.specs.Performed.{IsPerformedByWords};
+ghost use Rattle.dvd_commands.specs.Performed.{BesideAnyReport, IsPerformedByWords};
 ghost use Rattle.dvd_commands.specs.Inner.Performing.{AreTaken, EndsInCapture};
 ghost use Rattle.dvd_words.specs.Settings.{IsLayoutOf};
 
 use crate::blocks::Blocks;
-use crate::refusal::Refusal;
+use crate::refusal::Begun;
 use crate::start::Start;
 use crate::unit::unit_written;
 use dvd_capture::{FetchAnswer, Form, Work, fetch};
@@ -108,23 +108,17 @@ pub fn merge_loop<S: Source, K: Sink>(
 
 /// The command with its buffers, or why it doesn't begin. The layout is tried before memory is taken: a broken rule is
 /// what a user can put right.
-pub(crate) fn run_merge<S: Source, K: Sink>(
-    start: &Start<'_>,
-    src: &mut S,
-    out: &mut K,
-) -> Result<LoopEnd, Refusal>
+pub(crate) fn run_merge<S: Source, K: Sink>(start: &Start<'_>, src: &mut S, out: &mut K) -> Begun
     requires command { start.now.settings.now.command ≡ Command.Merge }
     requires form { HasSize start.now.settings.now.form }
     requires captures { start.now.settings.now.captures ≤ 16 }
-    ensures performed { (report : Seen) → IsPerformedByWords start.now.settings.now
-        (streams (S.seen src.old) (K.seen out.old) report) (streams (S.seen src.new) (K.seen out.new) report) result }
+    ensures performed { BesideAnyReport (IsPerformedByWords start.now.settings.now) (S.seen src.old) (K.seen out.old) (S.seen src.new) (K.seen out.new) result }
     ensures untouched { IsErr result → (src.new ≡ src.old) × (out.new ≡ out.old) }
 {
-    let settings = start.settings;
-    let layout = settings.layout()?;
+    let layout = start.settings.layout()?;
     let mut merge = Merge::new(start.alloc)?;
     let mut work = Work::new(start.alloc)?;
-    Ok(merge_loop(settings, &layout, &mut merge, &mut work, src, out))
+    Ok(merge_loop(start.settings, &layout, &mut merge, &mut work, src, out))
 }
 
 // Joins the captures of block `k`, or answers how the loop ends within them. The join doesn't depend on earlier blocks:

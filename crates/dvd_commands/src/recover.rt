@@ -1,92 +1,66 @@
 //! The command `recover`: image sectors from a stream of captured blocks.
 //!
 //! `run_recover` takes the memory and reads the header of a listed capture, `recover_loop` goes over all blocks of the
-//! plan, and `recover_block` does one. `Work` is the memory of one captured block: its received rows and marks, what
-//! two passes made of them, and its sixteen sectors. Each block overwrites what the one before left there. `Planned` is
-//! a block of the stream with its number, which lines name, and its entry in the plan of the layout.
+//! plan by `Imaging`, and `give` does one that holds image. `Work` is the memory of one captured block: its received
+//! rows and marks, what two passes made of them, and its sixteen sectors. Each block overwrites what the one before
+//! left there. `Planned` is a block of the stream with its number, which lines name, and its entry in the plan of the
+//! layout.
 //!
-//! In the clauses `IsLayoutOf` says that the layout is the one that the settings ask for, `HasBlock` that the work
-//! holds a received block, `HasNumbers` that the sector numbers of an entry have 24 bits, `MayRead` that besides these
-//! the runtime and the gate may be shared with threads, and that there are 1 to 16 workers, and `IsReader` that each
-//! call of the closure reads a block as `read_block` does. `AreDone` says which steps, writes and lines, are done for a
-//! unit; where a call fails, only a first part of them is. The clause of a function that isn't handed the source is of
-//! any (`source`), which stays as it is.
+//! In the clauses `IsLayoutOf` says that the layout is the one that the settings ask for, `MayRead` that the work holds
+//! a received block, that the sector numbers of an entry have 24 bits, that the runtime and the gate may be shared with
+//! threads, and that there are 1 to 16 workers, and `IsReader` that each call of the closure reads a block as
+//! `read_block` does.
 ghost use Rattle.std.specs.Thread.{IsSync};
-ghost use Rattle.std.specs.Prelude.{◌≡◌, ◌≤◌, length, IsErr, refl};
-ghost use Rattle.dvd_ports.specs.Seen.{Seen};
-ghost use Rattle.dvd_capture.specs.Rule.{HasBlock};
-ghost use Rattle.dvd_capture.specs.Works.{rows_of, marks_of_work, stage_of};
-ghost use Rattle.dvd_capture.specs.declared.form.Form.{Form as CaptureForm};
-ghost use Rattle.dvd_layout.specs.Place.{HasNumbers};
+ghost use Rattle.std.specs.Prelude.{◌≡◌, ◌≤◌, length, IsErr};
 ghost use Rattle.dvd_layout.specs.Plan.{plan_of};
-ghost use Rattle.dvd_layout.specs.declared.layout.Layout.{Layout as DiskLayout};
-ghost use Rattle.dvd_layout.specs.declared.layout.Zones.{Zones as WhichZones};
 ghost use Rattle.dvd_loop.specs.Machine.{IsOutcome};
 ghost use Rattle.dvd_loop.specs.Streams.{streams, HasEnded};
-ghost use Rattle.dvd_loop.specs.UnitCommand.{AreDone};
 ghost use Rattle.dvd_read.specs.Calls.{IsBlockRead};
-ghost use Rattle.dvd_commands.specs.Captured.{ForImage, IsCaptureEnd};
+ghost use Rattle.dvd_commands.specs.Captured.{IsCaptureEnd};
 ghost use Rattle.dvd_commands.specs.Recover.{IsImageDone, recover_units};
 ghost use Rattle.dvd_commands.specs.Performed.{IsPerformed};
 ghost use Rattle.dvd_commands.specs.Inner.Workers.{IsReader, MayRead};
 ghost use Rattle.dvd_words.specs.Settings.{IsLayoutOf};
 
 use crate::blocks::Blocks;
-use crate::captured::{Planned, fetch_block, refuse_block, write_image};
+use crate::captured::{Planned, refuse_block, write_image};
+use crate::imaging::{GivesImage, Imaging};
 use crate::opening::{layout_from_arguments, open_blocks};
-use crate::refusal::Refusal;
+use crate::refusal::Begun;
 use crate::start::Start;
 use crate::workers::{Workers, read_by};
-use dvd_capture::{Form, Work};
-use dvd_layout::{BlockPlan, Content, Layout};
-use dvd_loop::{LoopEnd, PlainCommand, Processed, UnitKind, run_plain};
+use dvd_capture::Work;
+use dvd_layout::{BlockPlan, Layout};
+use dvd_loop::{LoopEnd, Processed, UnitKind, run_plain};
 use dvd_par::{Gate, read_block_par};
 use dvd_ports::{Sink, Source};
 use dvd_read::{Cause, Fixed};
 use dvd_words::{Command, Settings};
 use std::thread::Threads;
 
-/// Its blocks, in the order of the plan, how they are read, and the memory of one block.
+/// How its blocks are read.
 #[derive(Drop)]
-struct Recover<'a, 'r, F> {
-    blocks: Blocks,
-    form: Form,
+struct Recover<'r, F> {
     read: &'r F,
-    work: &'a mut Work,
 }
 
-// The clauses of these methods are in the trait: for block `k` they do what `recover_units` says, and nothing opens or
-// closes the units (`alone`). `key` is what the units depend on; no method changes it.
-// `ready` is what a unit needs: a closure that reads a block as `read_block` does. A `PlainCommand` has units that
-// don't depend on each other; `Processed` is the kind of one, or how the loop ends in it.
-impl<'a, 'r, F, S: Source, K: Sink, E: Sink> PlainCommand<S, K, E> for Recover<'a, 'r, F>
+// The clauses are in the trait. `ready` is what a block needs: a closure that reads one as `read_block` does.
+impl<'r, F, K: Sink, E: Sink> GivesImage<K, E> for Recover<'r, F>
 where
     F: Fn(&mut Work, &BlockPlan) -> Result<Fixed, Cause>,
 {
-    ghost Key = { DiskLayout × WhichZones × CaptureForm };
-
-    ghost key = { λ r. (r.blocks.layout, r.blocks.zones, r.form) };
-
-    ghost units = { λ key. recover_units key.0 key.1 key.2 };
+    ghost May = { IsImageDone };
 
     ghost ready = { λ r. IsReader F.Fn r.read.now };
 
-    ghost alone = { λ _. record { opens = refl; closes = λ _. refl; after_last = refl } };
-
-    fn count(&self) -> u32 {
-        self.blocks.count()
-    }
-
-    // Each block is read whole, even one without image, since the next begins after it.
-    fn process(&mut self, k: u32, src: &mut S, out: &mut K, report: &mut E) -> Processed {
-        let entry = self.blocks.at(k);
-        fetch_block(src, k, self.form, self.work)?;
-        let block = Planned {
-            layout: &self.blocks.layout,
-            k,
-            entry: &entry,
-        };
-        recover_block(&block, self.read, self.work, out, report)
+    // Writes the sectors of a block that is accepted. Or reports its cause, and writes those that are salvaged and
+    // zeros for the others. `deep` has the same form, but reads by one thread and tries rounds.
+    fn give(&mut self, block: &Planned, work: &mut Work, out: &mut K, report: &mut E) -> Processed {
+        match read_by(self.read, work, block.entry) {
+            // What was fixed isn't reported: an accepted block has no line here, and `survey` counts rows.
+            Ok(_) => write_image(block, work, UnitKind::Good, out),
+            Err(cause) => refuse_block(block, &cause, work, out, report),
+        }
     }
 }
 
@@ -118,13 +92,13 @@ pub fn recover_loop<R: Threads + Sync, S: Source, K: Sink, E: Sink, G: Gate>(
         requires { MayRead (IsSync R.row) (IsSync G.row) workers work.now plan.now }
         ensures { IsBlockRead work.entry.now work.exit.now plan.entry.now result }
     { read_block_par(rt, workers, gate, work, plan) };
-    let recover = Recover {
+    let recover = Imaging {
         blocks: Blocks {
             layout: *layout,
             zones: settings.zones,
         },
         form: settings.form,
-        read: &read,
+        command: Recover { read: &read },
         work,
     };
     run_plain(recover, src, out, report)
@@ -138,7 +112,7 @@ pub(crate) fn run_recover<R: Threads + Sync, S: Source, K: Sink, E: Sink, G: Gat
     src: &mut S,
     out: &mut K,
     report: &mut E,
-) -> Result<LoopEnd, Refusal>
+) -> Begun
     requires command { start.now.settings.now.command ≡ Command.Recover }
     requires workers { (1 ≤ start.now.settings.now.workers) × (start.now.settings.now.workers ≤ 16) }
     ensures performed { IsPerformed start.now.settings.now
@@ -163,33 +137,5 @@ pub(crate) fn run_recover<R: Threads + Sync, S: Source, K: Sink, E: Sink, G: Gat
         )),
         // The run ended in the header of its input. It did begin, so this is an end and no refusal.
         Err(end) => Ok(end),
-    }
-}
-
-// Decodes a block of image sectors and writes them. Or it reports its cause, and writes those that are salvaged and
-// zeros for the others. Any other block is passed over, undecoded: nothing of it goes to the image, so damage there
-// costs nothing. The contents are listed by name, so that a new one has to be thought of. `deep_block` has the same
-// form, but reads by one thread and tries rounds.
-fn recover_block<F: Fn(&mut Work, &BlockPlan) -> Result<Fixed, Cause>, K: Sink, E: Sink>(
-    block: &Planned<'_>,
-    read: &F,
-    work: &mut Work,
-    out: &mut K,
-    report: &mut E,
-) -> Processed
-    requires reader { IsReader F.Fn read.now }
-    requires numbers { HasNumbers block.now.entry.now }
-    requires stage { HasBlock (stage_of work.old) }
-    ensures { (source : Seen) → AreDone (ForImage (IsImageDone block.now.layout.now block.now.k) block.now.entry.now (rows_of work.old) (marks_of_work work.old))
-        (streams source (K.seen out.old) (E.seen report.old)) (streams source (K.seen out.new) (E.seen report.new)) result }
-{
-    match block.entry.content {
-        Content::Image(_) => {}
-        Content::Zero | Content::Reference | Content::Control => return Ok(UnitKind::Good),
-    }
-    match read_by(read, work, block.entry) {
-        // What was fixed isn't reported: an accepted block has no line here, and `survey` counts rows.
-        Ok(_) => write_image(block, work, UnitKind::Good, out),
-        Err(cause) => refuse_block(block, &cause, work, out, report),
     }
 }

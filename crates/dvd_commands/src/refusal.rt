@@ -5,6 +5,7 @@ ghost use Rattle.std.specs.Prelude.{◌≡◌};
 ghost use Rattle.dvd_commands.specs.declared.refusal.Refusal.TheVariants.{Setting as setting, NoMemory as no_memory};
 
 use dvd_layout::LayoutFault;
+use dvd_loop::LoopEnd;
 use dvd_ports::NoMemory;
 
 /// Why a command doesn't begin.
@@ -15,6 +16,9 @@ pub enum Refusal {
     /// There is no memory for its buffers. Which of them it was, nobody asks.
     NoMemory,
 }
+
+/// What beginning a command answers: how its loop ended, or why it doesn't begin.
+pub(crate) type Begun = Result<LoopEnd, Refusal>;
 
 impl From<LayoutFault> for Refusal {
     ghost from_gives = { λ fault refusal. refusal ≡ setting fault };

@@ -31,7 +31,7 @@ ghost use Rattle.dvd_report.specs.declared.counts.Surveyed.{Surveyed};
 ghost use Rattle.dvd_read.specs.Calls.{IsBlockRead};
 ghost use Rattle.dvd_commands.specs.Captured.{IsCaptureEnd};
 ghost use Rattle.dvd_commands.specs.Survey.{found_in, survey_units, kind_by};
-ghost use Rattle.dvd_commands.specs.Performed.{IsPerformed};
+ghost use Rattle.dvd_commands.specs.Performed.{BesideAnyReport, IsPerformed};
 ghost use Rattle.dvd_commands.specs.Inner.Performing.{IsLineDone};
 ghost use Rattle.dvd_commands.specs.Inner.Workers.{IsReader, MayRead};
 ghost use Rattle.dvd_words.specs.Settings.{IsLayoutOf};
@@ -39,7 +39,7 @@ ghost use Rattle.dvd_words.specs.Settings.{IsLayoutOf};
 use crate::blocks::Blocks;
 use crate::captured::fetch_block;
 use crate::opening::{layout_from_arguments, open_blocks};
-use crate::refusal::Refusal;
+use crate::refusal::Begun;
 use crate::start::Start;
 use crate::workers::{Workers, read_by};
 use dvd_capture::{Form, Work};
@@ -160,11 +160,10 @@ pub(crate) fn run_survey<R: Threads + Sync, S: Source, K: Sink, G: Gate>(
     start: &Start<'_>,
     src: &mut S,
     out: &mut K,
-) -> Result<LoopEnd, Refusal>
+) -> Begun
     requires command { start.now.settings.now.command ≡ Command.Survey }
     requires workers { (1 ≤ start.now.settings.now.workers) × (start.now.settings.now.workers ≤ 16) }
-    ensures performed { (report : Seen) → IsPerformed start.now.settings.now
-        (streams (S.seen src.old) (K.seen out.old) report) (streams (S.seen src.new) (K.seen out.new) report) result }
+    ensures performed { BesideAnyReport (IsPerformed start.now.settings.now) (S.seen src.old) (K.seen out.old) (S.seen src.new) (K.seen out.new) result }
     ensures untouched { IsErr result → (src.new ≡ src.old) × (out.new ≡ out.old) }
 {
     let settings = start.settings;

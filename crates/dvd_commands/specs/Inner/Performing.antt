@@ -1,9 +1,12 @@
 -- What the private calls of the commands promise: what is read and written for one block.
-use Rattle.std.specs.Prelude.{◌≡◌, ◌⊎◌, ◌<◌, ℕ, ◌+◌, ◌*◌, Bool, true, is_some, List, [], ◌∷◌, ◌++◌, length, take, Option, None}
+use Rattle.std.specs.Prelude.{◌≡◌, ◌⊎◌, ◌<◌, ℕ, ◌+◌, ◌*◌, Bool, true, is_some, List, [], ◌∷◌, ◌++◌, length, take, Option, None, Result, Ok, Err}
 use Rattle.std.specs.List.{flat_map}
 use Rattle.std.specs.Io.KnownBytes.{Consumes, IsAtEnd}
 use Rattle.coding.specs.Product.{line}
 use Rattle.dvd_capture.specs.Captured.{block_size}
+use Rattle.dvd_capture.specs.declared.capture.FetchAnswer.{FetchAnswer}
+use Rattle.dvd_capture.specs.declared.capture.FetchAnswer.TheVariants as answers
+use Rattle.dvd_capture.specs.declared.capture.FetchAnswer.TheVariants.{End, Full}
 use Rattle.dvd_capture.specs.declared.form.Form.{Form}
 use Rattle.dvd_control.specs.Format.{Fields, control_fault, fields_in}
 use Rattle.dvd_layout.specs.declared.entry.BlockPlan.{BlockPlan}
@@ -15,7 +18,7 @@ use Rattle.dvd_loop.specs.declared.ends.UnitKind.TheVariants.{Bad, Good}
 use Rattle.dvd_commands.specs.Info.{GivesNoFormat}
 use Rattle.dvd_loop.specs.Streams.{AreKnown}
 use Rattle.dvd_loop.specs.declared.ends.LoopEnd.{LoopEnd}
-use Rattle.dvd_loop.specs.declared.ends.LoopEnd.TheVariants.{ReadFault, Short}
+use Rattle.dvd_loop.specs.declared.ends.LoopEnd.TheVariants.{BadMarks, ReadFault, Short}
 use Rattle.dvd_merge.specs.Join.{Table, joined}
 use Rattle.dvd_ports.specs.Seen.{Seen}
 use Rattle.dvd_decoding.specs.Reading.{IsReadAs, block_cause}
@@ -39,6 +42,14 @@ pub record EndsCaptured (form : Form) (k : ℕ) (old new : Seen) (end : LoopEnd)
   pub reads : Consumes old.bytes new.bytes own
   pub known : AreKnown new.bytes left
   pub ends : EndsWithin (captured_part form own) k (length own) left end
+
+-- how the loop goes on where this was answered of unit k
+abbrev pub fetched : FetchAnswer → ℕ → Result (Unit {0}) LoopEnd
+fetched Full k = Ok tt
+fetched End k = Err (Short k 0)
+fetched (answers.Short bytes) k = Err (Short k bytes)
+fetched answers.ReadFault k = Err ReadFault
+fetched (answers.BadMarks at) k = Err (BadMarks k at)
 
 -- the first sectors, this many, one after the other
 abbrev pub sectors_out : ℕ → List (List ℕ) → List ℕ

@@ -7,9 +7,7 @@ use Rattle.dvd_commands.proofs.assemble.run_assemble.Goals as goal
 
 pub returns-clause-performed : goal.returns-clause-performed
 returns-clause-performed g c =
-    let settings = c.args.start.now.settings.now in
-    let layout = c.in_ok-layout.layout in
-    gone_over Assemble settings c.requires.command (c.in_ok-layout.ensures.valid refl) layout c.in_ok-layout.ensures.lengths
+    gone_over Assemble c.args.start.now.settings.now c.requires.command (c.in_ok-layout.ensures.valid refl) c.in_ok-layout.layout c.in_ok-layout.ensures.lengths
     _ _ c.assemble_loop.result c.assemble_loop.ensures.follows
 
 pub overflow_cast-blocks : goal.overflow_cast-blocks

@@ -2,9 +2,10 @@
 use Rattle.std.proofs.Common.{◌≡◌, ◌∙◌, Ok, Err, false, refl, subst, sym, true}
 use Rattle.std.specs.Prelude.{Result}
 use Rattle.dvd_capture.specs.Captured.{HasSize}
-use Rattle.dvd_loop.specs.Streams.{Streams}
+use Rattle.dvd_loop.specs.Streams.{Streams, streams}
 use Rattle.dvd_loop.specs.declared.ends.LoopEnd.{LoopEnd}
-use Rattle.dvd_commands.specs.Performed.{HasGoneOver, HasLooped, IsPerformed, IsPerformedByWords}
+use Rattle.dvd_ports.specs.Seen.{Seen}
+use Rattle.dvd_commands.specs.Performed.{BesideAnyReport, HasGoneOver, HasLooped, IsPerformed, IsPerformedByWords}
 use Rattle.dvd_commands.specs.declared.refusal.Refusal.{Refusal}
 use Rattle.dvd_commands.specs.declared.refusal.Refusal.TheVariants.{NoMemory, Setting}
 use Rattle.dvd_words.specs.Reading.{IsValid, takes_listed}
@@ -34,6 +35,14 @@ by_words command settings valid is not old new (Err (Setting fault)) breaks =
 by_words command settings valid is not old new (Err NoMemory) unbroken =
     breaks_by_words settings.form (sized settings command valid is not) settings ∙ unbroken
 
+-- so it is beside any report, where the command writes none
+unreported : (command : Command) (settings : Settings) → IsValid settings → settings.command ≡ command → takes_listed command ≡ false
+    → (source output new_source new_output report : Seen) (answer : Result LoopEnd Refusal)
+    → BesideAnyReport (IsPerformedByWords settings) source output new_source new_output answer
+    → IsPerformed settings (streams source output report) (streams new_source new_output report) answer
+unreported command settings valid is not source output new_source new_output report answer did =
+    by_words command settings valid is not _ _ answer (did report)
+
 pub returns-in-Frames-clause-performed : goal.returns-in-Frames-clause-performed
 returns-in-Frames-clause-performed g c = alone Frames c.args.settings.now c.requires c.in-Frames.is refl _ _ c.frames_loop.result
     (gone_over Frames c.args.settings.now c.in-Frames.is refl tt tt _ _ c.frames_loop.result
@@ -49,20 +58,16 @@ returns-in-CdRead-clause-performed g c = alone CdRead c.args.settings.now c.requ
     (gone_over CdRead c.args.settings.now c.in-CdRead.is refl tt tt _ _ c.cdread_loop.result c.cdread_loop.ensures.follows)
 
 pub returns-in-Master-clause-performed : goal.returns-in-Master-clause-performed
-returns-in-Master-clause-performed g c = by_words Master _ c.requires c.in-Master.is refl _ _ c.run_master.result
-    (c.run_master.ensures.performed (g.E.Sink.seen c.args.report.now))
+returns-in-Master-clause-performed g c = unreported Master _ c.requires c.in-Master.is refl _ _ _ _ _ c.run_master.result c.run_master.ensures.performed
 
 pub returns-in-Merge-clause-performed : goal.returns-in-Merge-clause-performed
-returns-in-Merge-clause-performed g c = by_words Merge _ c.requires c.in-Merge.is refl _ _ c.run_merge.result
-    (c.run_merge.ensures.performed (g.E.Sink.seen c.args.report.now))
+returns-in-Merge-clause-performed g c = unreported Merge _ c.requires c.in-Merge.is refl _ _ _ _ _ c.run_merge.result c.run_merge.ensures.performed
 
 pub returns-in-Exercise-clause-performed : goal.returns-in-Exercise-clause-performed
-returns-in-Exercise-clause-performed g c = by_words Exercise _ c.requires c.in-Exercise.is refl _ _ c.run_exercise.result
-    (c.run_exercise.ensures.performed (g.E.Sink.seen c.args.report.now))
+returns-in-Exercise-clause-performed g c = unreported Exercise _ c.requires c.in-Exercise.is refl _ _ _ _ _ c.run_exercise.result c.run_exercise.ensures.performed
 
 pub returns-in-Convert-clause-performed : goal.returns-in-Convert-clause-performed
-returns-in-Convert-clause-performed g c = by_words Convert _ c.requires c.in-Convert.is refl _ _ c.run_convert.result
-    (c.run_convert.ensures.performed (g.E.Sink.seen c.args.report.now))
+returns-in-Convert-clause-performed g c = unreported Convert _ c.requires c.in-Convert.is refl _ _ _ _ _ c.run_convert.result c.run_convert.ensures.performed
 
 pub returns-in-Survey-clause-performed : goal.returns-in-Survey-clause-performed
 returns-in-Survey-clause-performed g c = c.run_survey.ensures.performed (g.E.Sink.seen c.args.report.now)

@@ -6,7 +6,5 @@ use Rattle.dvd_commands.proofs.master.run_master.Goals as goal
 
 pub returns-clause-performed : goal.returns-clause-performed
 returns-clause-performed g c = λ report.
-    let settings = c.args.start.now.settings.now in
-    let layout = c.in_ok-layout.layout in
-    gone_over Master settings c.requires.command (c.in_ok-layout.ensures.valid refl) layout c.in_ok-layout.ensures.lengths
+    gone_over Master c.args.start.now.settings.now c.requires.command (c.in_ok-layout.ensures.valid refl) c.in_ok-layout.layout c.in_ok-layout.ensures.lengths
     _ _ c.master_loop.result (c.master_loop.ensures.follows report)

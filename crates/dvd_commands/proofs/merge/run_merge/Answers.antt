@@ -6,7 +6,5 @@ use Rattle.dvd_commands.proofs.merge.run_merge.Goals as goal
 
 pub returns-clause-performed : goal.returns-clause-performed
 returns-clause-performed g c = λ report.
-    let settings = c.args.start.now.settings.now in
-    let layout = c.in_ok-layout.layout in
-    gone_over Merge settings c.requires.command (c.in_ok-layout.ensures.valid refl) layout c.in_ok-layout.ensures.lengths
+    gone_over Merge c.args.start.now.settings.now c.requires.command (c.in_ok-layout.ensures.valid refl) c.in_ok-layout.layout c.in_ok-layout.ensures.lengths
     _ _ c.merge_loop.result (c.merge_loop.ensures.follows report)
