@@ -31,8 +31,9 @@ pub record IsCorrectableSector (settings : Settings) (bytes user : List ℕ) (k 
 abbrev pub GivesUserData : Settings → List ℕ → List ℕ → Type 0
 GivesUserData settings bytes out = (user : List ℕ) (k : ℕ) → IsCorrectableSector settings bytes user k → take 2048 (drop (2048 * k) out) ≡ user
 
--- The bound of `cdread`, for each sector within it: those that came are given back, and whatever ended the run, what was
--- written of one is a prefix of its user data. Nothing else may be done for such a sector, so that no line names it.
+-- The bound of `cdread`, for each sector within it: those that came are given back, and whatever ended the run, what
+-- was written of one is a prefix of its user data. Nothing else may be done for such a sector, so that no line names
+-- it.
 pub record KeepsSectors (settings : Settings) (bytes : List ℕ) (outcome : Outcome) : Type 0 where
   pub given : GivesWhatCame (GivesUserData settings) bytes outcome
   pub begun : (user : List ℕ) (k : ℕ) → IsCorrectableSector settings bytes user k → IsPrefixOf (take 2048 (drop (2048 * k) outcome.out)) user
