@@ -169,6 +169,12 @@ module _ (units : Units) (size : ℕ → ℕ) (begins : (k : ℕ) (own : List �
       (λ own fewer. begins (length before) own ∙ ap (λ j. sized (size j) own) number ∙ sized_fewer (size k) own fewer)
       (subst (λ j. EndsShort j (size k) source new_source end) (sym number) short) causes)
 
+  -- likewise by the length of the buffer that it was to fill
+  pub buffer_short : (answer : Result UnitKind LoopEnd) (end : LoopEnd) → answer ≡ Err end → (n : ℕ) → n ≡ size k → EndsShort k n source new_source end
+      → HaveCauses end end (streams source output report) (streams new_source output report)
+      → IsProcessed units before ready (streams source output report) (streams new_source output report) answer
+  buffer_short answer end is n as_many short = sized_short answer end is (subst (λ m. EndsShort k m source new_source end) as_many short)
+
   -- a unit of which all bytes came, and what was done for it, is processed
   pub sized_done : (own : List ℕ) → length own ≡ size k → Consumes source.bytes new_source.bytes own
       → HaveGoneOn (streams source output report) (streams new_source output report)

@@ -1,13 +1,12 @@
 -- The proof of `kind` of `PlainCommand` for `CdRead` in src/cd_read.rt.
-use Rattle.std.proofs.Common.{◌≡◌, length, refl, arith}
-use Rattle.dvd_loop.proofs.UnitLemmas.{err_is, sized_done, sized_short}
+use Rattle.std.proofs.Common.{length, refl, arith}
+use Rattle.dvd_loop.proofs.UnitLemmas.{buffer_short, err_is, sized_done}
 use Rattle.dvd_commands.proofs.cd_read.CdReadPlainCommand.process.Goals as goal
 
 pub returns-in_err-read_unit-clause-processed : goal.returns-in_err-read_unit-clause-processed
 returns-in_err-read_unit-clause-processed g c = λ before number.
-    let size : length c.read_unit.new.unit ≡ 2352 = omega (arith, c.read_unit.auto.unit) in
-    sized_short _ _ (λ k own. refl) c.args.k before number _ _ _ _ _ _ _ (err_is _ _ c.from_residual.ensures.1)
-    (rw size at c.in_err-read_unit.ensures.short) (c.in_err-read_unit.ensures.causes _ _)
+    buffer_short _ _ (λ k own. refl) c.args.k before number _ _ _ _ _ _ _ (err_is _ _ c.from_residual.ensures.1)
+    (length c.read_unit.new.unit) (omega (arith, c.read_unit.auto.unit)) c.in_err-read_unit.ensures.short (c.in_err-read_unit.ensures.causes _ _)
 
 pub returns-clause-processed : goal.returns-clause-processed
 returns-clause-processed g c = λ before number.
