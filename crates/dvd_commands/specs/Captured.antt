@@ -84,12 +84,12 @@ HasBlocks form bytes n = (j : ℕ) → j < n → captured_part form (from_block 
 
 -- the ends of a loop over a number of captured blocks of this form: a listed block may break a rule
 abbrev pub IsCaptureEnd : Form → ℕ → LoopEnd → Type 0
-IsCaptureEnd Listed count (BadMarks block at) = block < count
+IsCaptureEnd form count (BadMarks block at) = (form ≡ Listed) × (block < count)
 IsCaptureEnd form count end = IsDamageEnd count end
 
 -- those of a loop that looks for a first block
 abbrev pub IsSoughtEnd : Form → ℕ → LoopEnd → Type 0
-IsSoughtEnd Listed count (BadMarks block at) = block < count
+IsSoughtEnd form count (BadMarks block at) = (form ≡ Listed) × (block < count)
 IsSoughtEnd form count end = IsSearchEnd count end
 
 -- What is done for captured block k, whose bytes are its own: what this relation says, by its entry and by the rows and

@@ -1,13 +1,13 @@
 -- How a loop over units of given sizes may end.
 use Rattle.std.proofs.Common.{◌≡◌, ◌≢◌, ℕ, List, refl, sym, subst, ◌∙◌, arith}
 use Rattle.dvd_loop.specs.Streams.{Counts, is_report_fault, no_stream}
-use Rattle.dvd_loop.specs.Laws.{IsDamageEnd, IsNever, IsPlainEnd, IsSearchEnd}
+use Rattle.dvd_loop.specs.Laws.{IsDamageEnd, IsNever, IsPlainEnd}
 use Rattle.dvd_loop.specs.Machine.{IsOutcome, Outcome, Units, sized}
 use Rattle.dvd_loop.specs.declared.ends.AfterLast.TheVariants.{EndOfInput, NoControl as StopsNoControl}
 use Rattle.dvd_loop.specs.declared.ends.LoopEnd.{LoopEnd}
 use Rattle.dvd_loop.specs.declared.ends.LoopEnd.TheVariants.{BadHeader, BadMarks, Damaged, Done, Long, NoControl, ReadFault, ReportFault, Short, ShortHeader, WriteFault}
 use Rattle.dvd_loop.specs.declared.ends.UnitKind.TheVariants.{Bad}
-use Rattle.dvd_loop.proofs.PlainEnds.{damaged_at_most, never_bad_header, never_bad_marks, never_damaged, never_long, never_no_control, never_short_header, short_below}
+use Rattle.dvd_loop.proofs.PlainEnds.{damaged_at_most, never_bad_header, never_bad_marks, never_damaged, never_no_control, never_short_header, short_below}
 use Rattle.dvd_loop.proofs.Sizes.{sized_never_broken}
 
 module _ (units : Units) (size : ℕ → ℕ) (begins : (k : ℕ) (own : List ℕ) → units.begins k own ≡ sized (size k) own) (asks : units.after_last ≡ EndOfInput) (bytes : List ℕ) (outcome : Outcome) (runs : IsOutcome units bytes outcome) where
@@ -46,25 +46,6 @@ module _ (units : Units) (size : ℕ → ℕ) (begins : (k : ℕ) (own : List �
   damage_end (BadMarks k at) is = absurd (no_marks k at is)
   damage_end (ShortHeader held) is = absurd (never_short_header units bytes outcome runs held is)
   damage_end (BadHeader at) is = absurd (never_bad_header units bytes outcome runs at is)
-
--- where no unit is bad, and after the last one NoControl takes the place of one byte more
-pub search_end : (units : Units) (size : ℕ → ℕ) → ((k : ℕ) (own : List ℕ) → units.begins k own ≡ sized (size k) own) → units.after_last ≡ StopsNoControl
-    → IsNever units Bad
-    → (bytes : List ℕ) (outcome : Outcome) → IsOutcome units bytes outcome → (end : LoopEnd) → outcome.end ≡ end → end ≢ ReportFault
-    → IsSearchEnd units.count end
-search_end units size begins rule never bytes outcome runs Done is known = tt
-search_end units size begins rule never bytes outcome runs ReadFault is known = tt
-search_end units size begins rule never bytes outcome runs WriteFault is known = tt
-search_end units size begins rule never bytes outcome runs ReportFault is known = absurd (known refl)
-search_end units size begins rule never bytes outcome runs (Short k held) is known = short_below units bytes outcome runs k held is
-search_end units size begins rule never bytes outcome runs Long is known =
-    absurd (never_long units bytes outcome runs (λ asks. let no : StopsNoControl ≡ EndOfInput = sym rule ∙ asks in cc) is)
-search_end units size begins rule never bytes outcome runs (Damaged bad) is known = absurd (never_damaged units bytes outcome runs never bad is)
-search_end units size begins rule never bytes outcome runs NoControl is known = tt
-search_end units size begins rule never bytes outcome runs (BadMarks k at) is known =
-    absurd (never_bad_marks units bytes outcome runs (λ j place own broken. sized_never_broken (size j) place own (sym (begins j own) ∙ broken)) k at is)
-search_end units size begins rule never bytes outcome runs (ShortHeader held) is known = absurd (never_short_header units bytes outcome runs held is)
-search_end units size begins rule never bytes outcome runs (BadHeader at) is known = absurd (never_bad_header units bytes outcome runs at is)
 
 -- the report of a stream that is not there can't fail
 pub never_told : (end : LoopEnd) → Counts (is_report_fault end) no_stream no_stream → end ≢ ReportFault

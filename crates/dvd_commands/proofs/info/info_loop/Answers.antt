@@ -18,5 +18,5 @@ pub returns-clause-ends : goal.returns-clause-ends
 returns-clause-ends g c =
     let f = c.run_units.ensures.follows.comes in
     let settings = c.args.settings.now in
-    sought_end settings.form (info_units settings.initial settings.form) (λ k own. refl) refl (never_bad settings.initial settings.form)
-    f.bytes f.outcome f.holds c.run_units.result f.ends (never_told c.run_units.result c.run_units.ensures.follows.causes.report)
+    sought_end settings.form (info_units settings.initial settings.form) (λ k own. refl) f.bytes f.outcome f.holds refl
+    (never_bad settings.initial settings.form) c.run_units.result f.ends (never_told c.run_units.result c.run_units.ensures.follows.causes.report)

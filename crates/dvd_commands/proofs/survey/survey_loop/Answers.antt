@@ -21,7 +21,7 @@ pub returns-clause-ends : goal.returns-clause-ends
 returns-clause-ends g c =
     let f = c.run_owned.ensures.comes in
     let settings = c.args.settings.now in
-    capture_end settings.form (survey_units c.args.layout.now settings.zones settings.form) (λ k own. refl) refl f.bytes f.outcome f.holds c.run_owned.result f.ends
+    capture_end settings.form (survey_units c.args.layout.now settings.zones settings.form) (λ k own. refl) f.bytes f.outcome f.holds refl c.run_owned.result f.ends
 
 pub returns-clause-no_report : goal.returns-clause-no_report
 returns-clause-no_report g c = never_told c.run_owned.result c.run_owned.ensures.causes.report
