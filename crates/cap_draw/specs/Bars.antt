@@ -2,6 +2,8 @@
 use Rattle.std.specs.Prelude.{ℕ, zero, suc, ◌+◌, ◌*◌, ◌/◌, nat_lt, if◌then◌else◌, List, [], ◌++◌, codes, decimal}
 use Rattle.cap_survey.specs.declared.cell.Cell.{Cell}
 use Rattle.cap_draw.specs.Columns.{column_of}
+use Rattle.cap_draw.specs.declared.bars.Part.{Part}
+use Rattle.cap_draw.specs.declared.bars.Part.TheVariants.{FailedRows, RefusedBlocks, Sums}
 use Rattle.cap_draw.specs.declared.column.Column.{Column}
 use Rattle.cap_draw.specs.declared.plot.Plot.{Plot}
 
@@ -39,9 +41,6 @@ failed_rows_bar column =
     ++ title column ++ codes "failed " ++ decimal column.failed ++ codes "</title></rect><path class='o' d='M" ++ decimal column.x
     ++ codes " 0h" ++ decimal column.width ++ codes "v-16h-" ++ decimal column.width ++ codes "z'/>\n"
 
-abbrev pub failed_bar : Column → List ℕ
-failed_bar column = if nat_lt 0 column.failed then failed_rows_bar column else []
-
 -- the middle of a column
 abbrev pub middle_of : Column → ℕ
 middle_of column = column.x + column.width / 2
@@ -52,15 +51,18 @@ triangle column =
     codes "<path d='M" ++ decimal (middle_of column) ++ codes " 0l5 14h-10z" ++ title column ++ codes "refused " ++ decimal column.refused
     ++ codes "</title></path>\n"
 
-abbrev pub refused_mark : Column → List ℕ
-refused_mark column = if nat_lt 0 column.refused then triangle column else []
+-- what a part of the picture shows of a column
+abbrev pub column_text : Part → ℕ → Column → List ℕ
+column_text Sums scale column = bar scale column
+column_text FailedRows scale column = if nat_lt 0 column.failed then failed_rows_bar column else []
+column_text RefusedBlocks scale column = if nat_lt 0 column.refused then triangle column else []
 
--- the bars of the first columns
-abbrev pub bars : List Cell → Plot → ℕ → List ℕ
-bars cells plot = texts (λ c. bar plot.scale (column_of cells plot c))
+-- the bytes that a part has of one column at most
+abbrev pub most_of : Part → ℕ
+most_of Sums = 200
+most_of FailedRows = 170
+most_of RefusedBlocks = 110
 
-abbrev pub failed_bars : List Cell → Plot → ℕ → List ℕ
-failed_bars cells plot = texts (λ c. failed_bar (column_of cells plot c))
-
-abbrev pub refused_marks : List Cell → Plot → ℕ → List ℕ
-refused_marks cells plot = texts (λ c. refused_mark (column_of cells plot c))
+-- what a part shows of the first columns
+abbrev pub columns_text : Part → List Cell → Plot → ℕ → List ℕ
+columns_text part cells plot = texts (λ c. column_text part plot.scale (column_of cells plot c))

@@ -9,27 +9,59 @@
 //! function puts what one definition of `specs` says, so what may be missing has two: whether it is there, and what it
 //! is.
 ghost use Rattle.std.specs.Prelude.{◌≡◌, ◌≤◌, ◌+◌, ◌*◌, ◌++◌, length};
-ghost use Rattle.cap_draw.specs.Bars.{bar, bars, failed_bar, failed_bars, failed_rows_bar, mark_path, middle_of, over_class, over_mark, refused_mark, refused_marks, title, triangle};
-ghost use Rattle.cap_draw.specs.Columns.{column_of};
+ghost use Rattle.cap_draw.specs.Bars.{bar, column_text, columns_text, failed_rows_bar, mark_path, middle_of, most_of, over_class, over_mark, title, triangle};
 
 use crate::column::{Column, column_of};
 use crate::page::Page;
 use crate::plot::Plot;
 use cap_survey::Cell;
 
-/// Puts the bar of each column, as high as its greatest `sum8`. A bar and its mark have at most 200 bytes.
-pub fn put_bars(page: &mut Page, cells: &[Cell], plot: &Plot)
-    requires room { length page.old ≤ 10000 }
+/// A part of a picture that shows something of each column.
+#[derive(Clone, Copy, Debug, PartialEq, Eq, Drop)]
+pub enum Part {
+    /// The plot of sums has a bar, as high as the greatest `sum8` of the column.
+    Sums,
+    /// The band of failed rows has a bar and a mark where there is a failed row. The bar is as high as the most failed
+    /// rows of a block.
+    FailedRows,
+    /// The band of refused blocks has a mark where there is such a block.
+    RefusedBlocks,
+}
+
+/// Puts what a part shows of the columns, one after the other.
+pub fn put_columns(page: &mut Page, part: Part, cells: &[Cell], plot: &Plot)
+    requires room { length page.old + most_of part * plot.now.columns ≤ 2000000 }
     requires few { length cells.now ≤ 2097152 }
     requires width { plot.now.width ≤ 4999 }
     requires scale { plot.now.scale ≤ 4 }
-    requires columns { plot.now.columns ≤ 4000 }
     requires fewer { plot.now.columns ≤ length cells.now }
-    ensures bytes { page.new ≡ page.old ++ bars cells.now plot.now plot.now.columns }
-    ensures len { length page.new ≤ length page.old + 200 * plot.now.columns }
+    ensures bytes { page.new ≡ page.old ++ columns_text part cells.now plot.now plot.now.columns }
+    ensures len { length page.new ≤ length page.old + most_of part * plot.now.columns }
 {
     for c in 0..plot.columns {
-        put_bar(page, &column_of(cells, plot, c), plot.scale);
+        put_column(page, part, &column_of(cells, plot, c), plot.scale);
+    }
+}
+
+// What a part shows of a column: nothing, where it has no failed row or no refused block.
+fn put_column(page: &mut Page, part: Part, column: &Column, scale: u16)
+    requires room { length page.old + most_of part ≤ 2000000 }
+    requires scale { scale ≤ 4 }
+    ensures bytes { page.new ≡ page.old ++ column_text part scale column.now }
+    ensures len { length page.new ≤ length page.old + most_of part }
+{
+    match part {
+        Part::Sums => put_bar(page, column, scale),
+        Part::FailedRows => {
+            if column.failed > 0 {
+                put_failed_rows(page, column);
+            }
+        }
+        Part::RefusedBlocks => {
+            if column.refused > 0 {
+                put_triangle(page, column);
+            }
+        }
     }
 }
 
@@ -105,33 +137,6 @@ fn put_mark_at(page: &mut Page, column: &Column, scale: u16)
     page.put(b"z'/>\n");
 }
 
-/// Puts the bar and the mark of each column that has a failed row. The bar is as high as the most failed rows of a
-/// block.
-pub fn put_failed_bars(page: &mut Page, cells: &[Cell], plot: &Plot)
-    requires room { length page.old ≤ 805000 }
-    requires few { length cells.now ≤ 2097152 }
-    requires width { plot.now.width ≤ 4999 }
-    requires columns { plot.now.columns ≤ 4000 }
-    requires fewer { plot.now.columns ≤ length cells.now }
-    ensures bytes { page.new ≡ page.old ++ failed_bars cells.now plot.now plot.now.columns }
-    ensures len { length page.new ≤ length page.old + 170 * plot.now.columns }
-{
-    for c in 0..plot.columns {
-        put_failed_bar(page, &column_of(cells, plot, c));
-    }
-}
-
-// What is drawn of a column in the band of failed rows: nothing, where no block has one.
-fn put_failed_bar(page: &mut Page, column: &Column)
-    requires room { length page.old + 170 ≤ 2000000 }
-    ensures bytes { page.new ≡ page.old ++ failed_bar column.now }
-    ensures len { length page.new ≤ length page.old + 170 }
-{
-    if column.failed > 0 {
-        put_failed_rows(page, column);
-    }
-}
-
 // The mark is below the bar, since the bar of one row is hardly seen. It is 16 rows high, for which the band has room
 // below 0: there `v-` goes down too.
 fn put_failed_rows(page: &mut Page, column: &Column)
@@ -150,35 +155,8 @@ fn put_failed_rows(page: &mut Page, column: &Column)
     page.put(b"z'/>\n");
 }
 
-/// Puts a mark for each column that has a refused block. A triangle, whose width doesn't depend on the columns, so that
-/// one of a narrow column is seen.
-pub fn put_refused_marks(page: &mut Page, cells: &[Cell], plot: &Plot)
-    requires room { length page.old ≤ 1486000 }
-    requires few { length cells.now ≤ 2097152 }
-    requires width { plot.now.width ≤ 4999 }
-    requires columns { plot.now.columns ≤ 4000 }
-    requires fewer { plot.now.columns ≤ length cells.now }
-    ensures bytes { page.new ≡ page.old ++ refused_marks cells.now plot.now plot.now.columns }
-    ensures len { length page.new ≤ length page.old + 110 * plot.now.columns }
-{
-    for c in 0..plot.columns {
-        put_refused_mark(page, &column_of(cells, plot, c));
-    }
-}
-
-// What is drawn of a column in the band of refused blocks: nothing, where none is refused.
-fn put_refused_mark(page: &mut Page, column: &Column)
-    requires room { length page.old + 110 ≤ 2000000 }
-    ensures bytes { page.new ≡ page.old ++ refused_mark column.now }
-    ensures len { length page.new ≤ length page.old + 110 }
-{
-    if column.refused > 0 {
-        put_triangle(page, column);
-    }
-}
-
-// A triangle with its upper corner in the middle of the column, 10 units wide and 14 high. Its band has 16 units; any
-// size that fits would do.
+// A triangle with its upper corner in the middle of the column, 10 units wide and 14 high. Its width doesn't depend on
+// the columns, so that one of a narrow column is seen. Its band has 16 units; any size that fits would do.
 fn put_triangle(page: &mut Page, column: &Column)
     requires room { length page.old + 110 ≤ 2000000 }
     ensures bytes { page.new ≡ page.old ++ triangle column.now }

@@ -8,7 +8,7 @@ use crate::axes::{
     put_block_axis, put_limit, put_lower_frame, put_marks_frame, put_marks_line, put_plot_frame,
     put_row_lines,
 };
-use crate::bars::{put_bars, put_failed_bars, put_refused_marks};
+use crate::bars::{Part, put_columns};
 use crate::page::Page;
 use crate::plot::{Plot, plot_of};
 use crate::words::{put_head, put_legend, put_totals};
@@ -47,7 +47,7 @@ fn put_upper_part(page: &mut Page, cells: &[Cell], closed: bool, plot: &Plot)
     put_totals(page, cells, plot.columns, closed);
     put_row_lines(page, plot);
     put_plot_frame(page, plot);
-    put_bars(page, cells, plot);
+    put_columns(page, Part::Sums, cells, plot);
     put_limit(page, plot);
     put_block_axis(page, cells, plot);
 }
@@ -58,15 +58,16 @@ fn put_lower_part(page: &mut Page, cells: &[Cell], plot: &Plot)
     requires room { length page.old ≤ 804000 }
     requires few { length cells.now ≤ 2097152 }
     requires width { plot.now.width ≤ 4999 }
+    requires scale { plot.now.scale ≤ 4 }
     requires columns { plot.now.columns ≤ 4000 }
     requires fewer { plot.now.columns ≤ length cells.now }
     ensures bytes { page.new ≡ page.old ++ lower_part cells.now plot.now }
     ensures len { length page.new ≤ 2000000 }
 {
     put_lower_frame(page, plot);
-    put_failed_bars(page, cells, plot);
+    put_columns(page, Part::FailedRows, cells, plot);
     put_marks_frame(page, plot);
-    put_refused_marks(page, cells, plot);
+    put_columns(page, Part::RefusedBlocks, cells, plot);
     put_marks_line(page, plot);
     put_legend(page);
 }

@@ -78,10 +78,7 @@ fn draws(alloc: Global, case: &Case) -> Result<(), Fail> {
 
 #[test]
 fn surveys_are_drawn_and_faults_named(rt: HostRuntime) -> Result<(), Fail> {
-    for case in &CASES {
-        draws(rt.alloc(), case)?;
-    }
-    Ok(())
+    CASES.iter().try_for_each(|case| draws(rt.alloc(), case))
 }
 
 #[test]

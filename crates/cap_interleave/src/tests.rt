@@ -138,10 +138,7 @@ fn runs(alloc: Global, case: &Case) -> Result<(), Fail> {
 
 #[test]
 fn blocks_come_in_turn_and_ends_are_named(rt: HostRuntime) -> Result<(), Fail> {
-    for case in &CASES {
-        runs(rt.alloc(), case)?;
-    }
-    Ok(())
+    CASES.iter().try_for_each(|case| runs(rt.alloc(), case))
 }
 
 // Nothing more is asked of a capture that has ended: its next call would fail.

@@ -54,10 +54,7 @@ fn are_read(alloc: Global, case: &Good) -> Result<(), Fail> {
 
 #[test]
 fn spans_of_maps(rt: HostRuntime) -> Result<(), Fail> {
-    for case in &GOOD {
-        are_read(rt.alloc(), case)?;
-    }
-    Ok(())
+    GOOD.iter().try_for_each(|case| are_read(rt.alloc(), case))
 }
 
 // A text, the line that breaks a rule, and the rule. `+` alone is trusted.

@@ -243,10 +243,7 @@ fn breaks(alloc: Global, case: &(&str, u64, SurveyCause)) -> Result<(), Fail> {
 
 #[test]
 fn texts_that_are_no_survey(rt: HostRuntime) -> Result<(), Fail> {
-    for case in &FAULTS {
-        breaks(rt.alloc(), case)?;
-    }
-    Ok(())
+    FAULTS.iter().try_for_each(|case| breaks(rt.alloc(), case))
 }
 
 #[test]
