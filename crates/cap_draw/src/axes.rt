@@ -34,6 +34,7 @@ pub fn put_row_lines(page: &mut Page, plot: &Plot)
 // A line of the axis of rows, 70 units above the one before it: seven of them reach 420. It begins 4 units left of the
 // plot, as a tick. Its number is that of the rows, `scale` for each unit. It is 5 units lower, since a text is placed
 // by the foot of its letters. It ends at 54, which leaves 6 units before the tick.
+#[tactic(auto, using(std::proofs::lemmas::List::append_assoc))]
 fn put_row_line(page: &mut Page, plot: &Plot, i: u16)
     requires room { length page.old ≤ 5000 }
     requires width { plot.now.width ≤ 4999 }
@@ -52,6 +53,7 @@ fn put_row_line(page: &mut Page, plot: &Plot, i: u16)
 /// Puts what opens the plot of sums. It counts PI error rows from its lower edge up. So a bar is drawn by its own
 /// number, whatever the scale is. The matrix makes heights grow upwards, and `none` lets them be scaled without the
 /// width.
+#[tactic(auto, using(std::proofs::lemmas::List::append_assoc))]
 pub fn put_plot_frame(page: &mut Page, plot: &Plot)
     requires room { length page.old ≤ 5000 }
     requires scale { plot.now.scale ≤ 4 }
@@ -129,6 +131,7 @@ fn put_layer(page: &mut Page, cells: &[Cell], width: u16)
 }
 
 // The mark of layer 1: a dashed line over the height of the plot, and a text on its right, below the marks of bars.
+#[tactic(auto, using(std::proofs::lemmas::List::append_assoc))]
 fn put_layer_at(page: &mut Page, x: u16)
     requires room { length page.old ≤ 802700 }
     requires x { x ≤ 5063 }
@@ -180,6 +183,7 @@ fn put_block_tick(page: &mut Page, block: u32, blocks: u32, width: u16)
 }
 
 // A tick of 6 units below the plot, and the number of its block.
+#[tactic(auto, using(std::proofs::lemmas::List::append_assoc))]
 fn put_tick_at(page: &mut Page, x: u16, block: u32)
     requires { length page.old ≤ 818000 }
     ensures bytes { page.new ≡ page.old ++ tick_at x block }

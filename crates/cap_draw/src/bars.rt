@@ -123,6 +123,7 @@ fn put_mark(page: &mut Page, column: &Column, scale: u16)
 // Heights in the plot are rows: it is 440 × `scale` high, and the mark 14 × `scale`. So the mark is 14 units high by
 // any scale. It goes down from the upper edge by `v-`, since heights grow upwards, and is above the highest line of the
 // axis, which is at 420.
+#[tactic(auto, using(std::proofs::lemmas::List::append_assoc))]
 fn put_mark_at(page: &mut Page, column: &Column, scale: u16)
     requires room { length page.old + 60 ≤ 2000000 }
     requires scale { scale ≤ 4 }
@@ -139,6 +140,7 @@ fn put_mark_at(page: &mut Page, column: &Column, scale: u16)
 
 // The mark is below the bar, since the bar of one row is hardly seen. It is 16 rows high, for which the band has room
 // below 0: there `v-` goes down too.
+#[tactic(auto, using(std::proofs::lemmas::List::append_assoc))]
 fn put_failed_rows(page: &mut Page, column: &Column)
     requires room { length page.old + 170 ≤ 2000000 }
     ensures bytes { page.new ≡ page.old ++ failed_rows_bar column.now }
