@@ -63,17 +63,18 @@ fn draws(alloc: Global, case: &Case) -> Result<(), Fail> {
     let survey = SURVEY[..case.survey.min(SURVEY.len())].to_vec(alloc)?;
     let mut src = MemSource::new(survey, 50, vec![in alloc; case.broken_read; 1]?);
     let mut out = MemSink::new(alloc, case.room, 777, Vec::new(alloc))?;
-    if draw(alloc, 1000, &mut src, &mut out) != case.end {
-        Err(case.room)?;
+    let end = draw(alloc, 1000, &mut src, &mut out);
+    let is_whole = out.held().ends_with(b"</svg>\n");
+    let is_right = match case.end {
+        DrawEnd::Done | DrawEnd::Short { .. } => is_whole,
+        DrawEnd::WriteFault => !is_whole && out.held().is_empty() == (case.room == 0),
+        _ => out.held().is_empty(),
+    };
+    if end == case.end && is_right {
+        Ok(())
+    } else {
+        Err((case.survey, case.room))?
     }
-    let whole = out.held().ends_with(b"</svg>\n");
-    let is_whole = matches!(case.end, DrawEnd::Done | DrawEnd::Short { .. });
-    if whole != is_whole
-        || (case.end == DrawEnd::ReadFault) != out.held().is_empty() && case.room > 0
-    {
-        Err(case.survey)?;
-    }
-    Ok(())
 }
 
 #[test]

@@ -119,126 +119,53 @@ fn blocks_of_layer_1(rt: HostRuntime) -> Result<(), Fail> {
 // A report, the line that breaks a rule, and the rule. Line 0: it breaks none, and the rule isn't used.
 type Bad = (&'static str, u64, ReportCause);
 
-static BAD: [Bad; 38] = [
-    ("", 1, ReportCause::NoEnd),
-    ("\n", 1, ReportCause::Line),
-    ("done\ndone\n", 2, ReportCause::AfterEnd),
-    ("done\n\n", 2, ReportCause::AfterEnd),
-    ("done \n", 1, ReportCause::Line),
-    ("done\r\n", 1, ReportCause::Line),
-    ("Done\n", 1, ReportCause::Line),
-    ("usage\n", 1, ReportCause::Line),
-    ("no memory\n", 1, ReportCause::Line),
-    ("short: header, 3 bytes\n", 1, ReportCause::Line),
-    ("read fault\n", 1, ReportCause::Fault),
-    ("write fault\n", 1, ReportCause::Fault),
-    ("damaged: 1 blocks\n", 1, ReportCause::Count),
-    ("damaged: 0 blocks\n", 0, ReportCause::NoEnd),
-    ("damaged: 1 sectors\n", 1, ReportCause::Line),
-    ("damaged: 01 blocks\n", 1, ReportCause::Line),
-    (
-        "damaged: 9999999999999999999999999 blocks\n",
-        1,
-        ReportCause::Line,
-    ),
-    ("short: block 3, 1 bytes\n", 1, ReportCause::Block),
-    (
-        "short: block 99999999999999999999999, 1 bytes\n",
-        1,
-        ReportCause::Line,
-    ),
-    ("short: block 1, bytes\n", 1, ReportCause::Line),
-    (
-        "block 0 sector 030000 layer 0: rows 17 saved 2\n",
-        2,
-        ReportCause::NoEnd,
-    ),
-    (
-        "block 0 sector 030000 layer 0: rows 17 saved 2\ndone\n",
-        2,
-        ReportCause::Count,
-    ),
-    (
-        "block 0 sector 030000 layer 0: rows 17 saved 2\nshort: block 0, 0 bytes\n",
-        2,
-        ReportCause::Order,
-    ),
-    (
-        "block 0 sector 030000 layer 0: rows 17 saved 2\nblock 0 sector 030000 layer 0: rows 17 saved 2\n",
-        2,
-        ReportCause::Order,
-    ),
-    (
-        "block 1 sector 030010 layer 0: round 1\nblock 0 sector 030000 layer 0: rows 17 saved 2\n",
-        2,
-        ReportCause::Order,
-    ),
-    (
-        "block 0 sector 030000 layer 0: rows 17 saved 2",
-        2,
-        ReportCause::NoEnd,
-    ),
-    (
-        "block 0 sector 030000 layer 0: rows 209 saved 2\n",
-        1,
-        ReportCause::Line,
-    ),
-    (
-        "block 0 sector 030000 layer 0: rows 017 saved 2\n",
-        1,
-        ReportCause::Line,
-    ),
-    (
-        "block 0 sector 030000 layer 0: rows 17 saved 17\n",
-        1,
-        ReportCause::Line,
-    ),
-    (
-        "block 0 sector 030000 layer 0: rows 17 saved 2 \n",
-        1,
-        ReportCause::Line,
-    ),
-    (
-        "block 0 sector 030000 layer 0: round 5\n",
-        1,
-        ReportCause::Line,
-    ),
-    (
-        "block 0 sector 030000 layer 0: round 0\n",
-        1,
-        ReportCause::Line,
-    ),
-    (
-        "block 0 sector 030000 layer 0: address 0 found 0003000f saved 1\n",
-        1,
-        ReportCause::Line,
-    ),
-    (
-        "block 0 sector 030000 layer 1: rows 17 saved 2\n",
-        1,
-        ReportCause::Place,
-    ),
-    (
-        "block 0 sector 030010 layer 0: rows 17 saved 2\n",
-        1,
-        ReportCause::Place,
-    ),
-    (
-        "block 3 sector 030030 layer 0: rows 17 saved 2\n",
-        1,
-        ReportCause::Block,
-    ),
-    (
-        "block 18446744073709551616 sector 030000 layer 0: rows 17 saved 2\n",
-        1,
-        ReportCause::Line,
-    ),
-    (
-        "block 00 sector 030000 layer 0: rows 17 saved 2\n",
-        1,
-        ReportCause::Line,
-    ),
-];
+// The same in each row, the text at its end.
+macro_rules! bad {
+    ($($line:literal $cause:ident $text:literal;)*) => {
+        [$(($text, $line, ReportCause::$cause),)*]
+    };
+}
+
+static BAD: [Bad; 38] = bad!(
+    1 NoEnd "";
+    1 Line "\n";
+    2 AfterEnd "done\ndone\n";
+    2 AfterEnd "done\n\n";
+    1 Line "done \n";
+    1 Line "done\r\n";
+    1 Line "Done\n";
+    1 Line "usage\n";
+    1 Line "no memory\n";
+    1 Line "short: header, 3 bytes\n";
+    1 Fault "read fault\n";
+    1 Fault "write fault\n";
+    1 Count "damaged: 1 blocks\n";
+    0 NoEnd "damaged: 0 blocks\n";
+    1 Line "damaged: 1 sectors\n";
+    1 Line "damaged: 01 blocks\n";
+    1 Line "damaged: 9999999999999999999999999 blocks\n";
+    1 Block "short: block 3, 1 bytes\n";
+    1 Line "short: block 99999999999999999999999, 1 bytes\n";
+    1 Line "short: block 1, bytes\n";
+    2 NoEnd "block 0 sector 030000 layer 0: rows 17 saved 2\n";
+    2 Count "block 0 sector 030000 layer 0: rows 17 saved 2\ndone\n";
+    2 Order "block 0 sector 030000 layer 0: rows 17 saved 2\nshort: block 0, 0 bytes\n";
+    2 Order "block 0 sector 030000 layer 0: rows 17 saved 2\nblock 0 sector 030000 layer 0: rows 17 saved 2\n";
+    2 Order "block 1 sector 030010 layer 0: round 1\nblock 0 sector 030000 layer 0: rows 17 saved 2\n";
+    2 NoEnd "block 0 sector 030000 layer 0: rows 17 saved 2";
+    1 Line "block 0 sector 030000 layer 0: rows 209 saved 2\n";
+    1 Line "block 0 sector 030000 layer 0: rows 017 saved 2\n";
+    1 Line "block 0 sector 030000 layer 0: rows 17 saved 17\n";
+    1 Line "block 0 sector 030000 layer 0: rows 17 saved 2 \n";
+    1 Line "block 0 sector 030000 layer 0: round 5\n";
+    1 Line "block 0 sector 030000 layer 0: round 0\n";
+    1 Line "block 0 sector 030000 layer 0: address 0 found 0003000f saved 1\n";
+    1 Place "block 0 sector 030000 layer 1: rows 17 saved 2\n";
+    1 Place "block 0 sector 030010 layer 0: rows 17 saved 2\n";
+    1 Block "block 3 sector 030030 layer 0: rows 17 saved 2\n";
+    1 Line "block 18446744073709551616 sector 030000 layer 0: rows 17 saved 2\n";
+    1 Line "block 00 sector 030000 layer 0: rows 17 saved 2\n";
+);
 
 // Tries that a report is refused at this line for this rule. At line 0 it is accepted.
 fn is_refused(alloc: Global, layout: Layout, zones: Zones, case: &Bad) -> Result<(), Fail> {

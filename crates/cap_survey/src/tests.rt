@@ -68,182 +68,66 @@ fn a_survey_that_is_cut(rt: HostRuntime) -> Result<(), Fail> {
 // The first block, as often as a test needs it.
 static FIRST: &str = "block 0 sector 030000 layer 0 pi 9 failed 2 sum8 9: whole\n";
 
-// What comes after the line of the first block, the number of the line that breaks a rule, and the rule.
-static FAULTS: [(&str, u64, SurveyCause); 33] = [
-    ("\n", 2, SurveyCause::Form),
-    ("done\n", 2, SurveyCause::Form),
-    ("block 1\n", 2, SurveyCause::Form),
-    (
-        "block 1 sector 03001 layer 0 pi 0 failed 0 sum8 9: whole\n",
-        2,
-        SurveyCause::Form,
-    ),
-    (
-        "block 1 sector 03001g layer 0 pi 0 failed 0 sum8 9: whole\n",
-        2,
-        SurveyCause::Form,
-    ),
-    (
-        "block 1 sector 03001a layer 0 pi 0 failed 0 sum8 9: whole\n",
-        2,
-        SurveyCause::Form,
-    ),
-    (
-        "block 01 sector 030010 layer 0 pi 0 failed 0 sum8 9: whole\n",
-        2,
-        SurveyCause::Form,
-    ),
-    (
-        "block 1  sector 030010 layer 0 pi 0 failed 0 sum8 9: whole\n",
-        2,
-        SurveyCause::Form,
-    ),
-    (
-        "block -1 sector 030010 layer 0 pi 0 failed 0 sum8 9: whole\n",
-        2,
-        SurveyCause::Form,
-    ),
-    (
-        "block 1000000000000000000 sector 030010 layer 0 pi 0 failed 0 sum8 9: whole\n",
-        2,
-        SurveyCause::Form,
-    ),
-    (
-        "block 1 sector 030010 layer 0 pi 0 failed 0 sum8 9: whole \n",
-        2,
-        SurveyCause::Form,
-    ),
-    (
-        "block 1 sector 030010 layer 0 pi 0 failed 0 sum8 9: whole\r\n",
-        2,
-        SurveyCause::Form,
-    ),
-    (
-        "block 1 sector 030010 layer 0 pi 0 failed 0 sum8 9: row\n",
-        2,
-        SurveyCause::Form,
-    ),
-    (
-        "block 1 sector 030010 layer 0 pi 0 failed 0 sum8 9: rows \n",
-        2,
-        SurveyCause::Form,
-    ),
-    (
-        "block 1 sector 030010 layer 0 pi 0 failed 0 sum8 9: edc 16 saved 3\n",
-        2,
-        SurveyCause::Form,
-    ),
-    (
-        "block 1 sector 030010 layer 0 pi 0 failed 0 sum8 9: address 3 found 0003001\n",
-        2,
-        SurveyCause::Form,
-    ),
-    (
-        "block 1 sector 030010 layer 0 pi 0 failed 0 sum8 9: address 3\n",
-        2,
-        SurveyCause::Form,
-    ),
-    (
-        "block 1 sector 030010 layer 0 pi 0 failed 0 sum8 9:\n",
-        2,
-        SurveyCause::Form,
-    ),
-    (
-        "block 0 sector 030000 layer 0 pi 9 failed 2 sum8 18: whole\n",
-        2,
-        SurveyCause::Order,
-    ),
-    (
-        "block 2 sector 030020 layer 0 pi 0 failed 0 sum8 9: whole\n",
-        2,
-        SurveyCause::Order,
-    ),
-    (
-        "block 999999999999999999 sector 030020 layer 0 pi 0 failed 0 sum8 9: whole\n",
-        2,
-        SurveyCause::Order,
-    ),
-    (
-        "block 1 sector 030010 layer 2 pi 0 failed 0 sum8 9: whole\n",
-        2,
-        SurveyCause::Range,
-    ),
-    (
-        "block 1 sector 030010 layer 0 pi 209 failed 0 sum8 218: whole\n",
-        2,
-        SurveyCause::Range,
-    ),
-    (
-        "block 1 sector 030010 layer 0 pi 3 failed 4 sum8 12: whole\n",
-        2,
-        SurveyCause::Range,
-    ),
-    (
-        "block 1 sector 030010 layer 0 pi 0 failed 0 sum8 8: whole\n",
-        2,
-        SurveyCause::Sum8,
-    ),
-    (
-        "blocks 2 pi 9 failed 2 damaged 0 peak 9 at 0 over 0\n",
-        2,
-        SurveyCause::Totals,
-    ),
-    (
-        "blocks 1 pi 8 failed 2 damaged 0 peak 9 at 0 over 0\n",
-        2,
-        SurveyCause::Totals,
-    ),
-    (
-        "blocks 1 pi 9 failed 2 damaged 1 peak 9 at 0 over 0\n",
-        2,
-        SurveyCause::Totals,
-    ),
-    (
-        "blocks 1 pi 9 failed 2 damaged 0 peak 9 at 1 over 0\n",
-        2,
-        SurveyCause::Totals,
-    ),
-    (
-        "blocks 1 pi 9 failed 2 damaged 0 peak 9 at 0 over 0 \n",
-        2,
-        SurveyCause::Form,
-    ),
-    (
-        "blocks 1 pi 9 failed 2 damaged 0 peak 9 at 0 over 0\n\n",
-        3,
-        SurveyCause::After,
-    ),
-    (
-        "blocks 1 pi 9 failed 2 damaged 0 peak 9 at 0 over 0\nx",
-        3,
-        SurveyCause::After,
-    ),
-    (
-        "0123456789012345678901234567890123456789012345678901234567890123456789012345678901234567890123456789\
-         0123456789012345678901234567890123456789012345678901234567890123456789012345678901234567890123456789\
-         01234567890123456789012345678901234567890123456789012345",
-        2,
-        SurveyCause::Form,
-    ),
-];
+// In each row the number of the line that breaks a rule, the rule, and what comes after the line of the first block.
+macro_rules! faults {
+    ($($line:literal $cause:ident $text:literal;)*) => {
+        [$(($text, Fault { line: $line, cause: SurveyCause::$cause }),)*]
+    };
+}
+
+static FAULTS: [(&str, Fault); 33] = faults!(
+    2 Form "\n";
+    2 Form "done\n";
+    2 Form "block 1\n";
+    2 Form "block 1 sector 03001 layer 0 pi 0 failed 0 sum8 9: whole\n";
+    2 Form "block 1 sector 03001g layer 0 pi 0 failed 0 sum8 9: whole\n";
+    2 Form "block 1 sector 03001a layer 0 pi 0 failed 0 sum8 9: whole\n";
+    2 Form "block 01 sector 030010 layer 0 pi 0 failed 0 sum8 9: whole\n";
+    2 Form "block 1  sector 030010 layer 0 pi 0 failed 0 sum8 9: whole\n";
+    2 Form "block -1 sector 030010 layer 0 pi 0 failed 0 sum8 9: whole\n";
+    2 Form "block 1000000000000000000 sector 030010 layer 0 pi 0 failed 0 sum8 9: whole\n";
+    2 Form "block 1 sector 030010 layer 0 pi 0 failed 0 sum8 9: whole \n";
+    2 Form "block 1 sector 030010 layer 0 pi 0 failed 0 sum8 9: whole\r\n";
+    2 Form "block 1 sector 030010 layer 0 pi 0 failed 0 sum8 9: row\n";
+    2 Form "block 1 sector 030010 layer 0 pi 0 failed 0 sum8 9: rows \n";
+    2 Form "block 1 sector 030010 layer 0 pi 0 failed 0 sum8 9: edc 16 saved 3\n";
+    2 Form "block 1 sector 030010 layer 0 pi 0 failed 0 sum8 9: address 3 found 0003001\n";
+    2 Form "block 1 sector 030010 layer 0 pi 0 failed 0 sum8 9: address 3\n";
+    2 Form "block 1 sector 030010 layer 0 pi 0 failed 0 sum8 9:\n";
+    2 Order "block 0 sector 030000 layer 0 pi 9 failed 2 sum8 18: whole\n";
+    2 Order "block 2 sector 030020 layer 0 pi 0 failed 0 sum8 9: whole\n";
+    2 Order "block 999999999999999999 sector 030020 layer 0 pi 0 failed 0 sum8 9: whole\n";
+    2 Range "block 1 sector 030010 layer 2 pi 0 failed 0 sum8 9: whole\n";
+    2 Range "block 1 sector 030010 layer 0 pi 209 failed 0 sum8 218: whole\n";
+    2 Range "block 1 sector 030010 layer 0 pi 3 failed 4 sum8 12: whole\n";
+    2 Sum8 "block 1 sector 030010 layer 0 pi 0 failed 0 sum8 8: whole\n";
+    2 Totals "blocks 2 pi 9 failed 2 damaged 0 peak 9 at 0 over 0\n";
+    2 Totals "blocks 1 pi 8 failed 2 damaged 0 peak 9 at 0 over 0\n";
+    2 Totals "blocks 1 pi 9 failed 2 damaged 1 peak 9 at 0 over 0\n";
+    2 Totals "blocks 1 pi 9 failed 2 damaged 0 peak 9 at 1 over 0\n";
+    2 Form "blocks 1 pi 9 failed 2 damaged 0 peak 9 at 0 over 0 \n";
+    3 After "blocks 1 pi 9 failed 2 damaged 0 peak 9 at 0 over 0\n\n";
+    3 After "blocks 1 pi 9 failed 2 damaged 0 peak 9 at 0 over 0\nx";
+    2 Form "0123456789012345678901234567890123456789012345678901234567890123456789012345678901234567890123456789\
+        0123456789012345678901234567890123456789012345678901234567890123456789012345678901234567890123456789\
+        01234567890123456789012345678901234567890123456789012345";
+);
 
 // Tries that what comes after the first block breaks this rule.
-fn breaks(alloc: Global, case: &(&str, u64, SurveyCause)) -> Result<(), Fail> {
+fn breaks(alloc: Global, text: &str, fault: Fault) -> Result<(), Fail> {
     let mut reading = Reading::new(alloc)?;
     reading.take(FIRST.as_bytes()).map_err(|_| 0)?;
-    let fault = Fault {
-        line: case.1,
-        cause: case.2,
-    };
-    if read(&mut reading, case.0, 999) != Err(fault) {
-        Err(case.0)?;
+    match read(&mut reading, text, 999) {
+        Err(found) if found == fault => Ok(()),
+        _ => Err(text)?,
     }
-    Ok(())
 }
 
 #[test]
 fn texts_that_are_no_survey(rt: HostRuntime) -> Result<(), Fail> {
-    FAULTS.iter().try_for_each(|case| breaks(rt.alloc(), case))
+    FAULTS
+        .iter()
+        .try_for_each(|(text, fault)| breaks(rt.alloc(), text, *fault))
 }
 
 #[test]
