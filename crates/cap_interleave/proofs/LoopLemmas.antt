@@ -128,61 +128,54 @@ module _ {S : Type 0} (seen : S → Seen) (task : Task) (k : ℕ) (b b2 : Buffer
   writes_before : Appends old.bytes mid.bytes (units_of task (then a.came r.owns) k)
   writes_before = subst (Appends old.bytes mid.bytes) (sym units_stay) a.writes
 
-  -- no byte of this unit came
-  done : k < 2 ^ 32 → ChecksTo b2 k (Err Done) → IsInterleaved seen task olds news old mid Done
-  done few check = record {
+  -- A run that ends in this unit: the units before it are due, by what came with it too.
+  ended : (new : Seen) (end : InterleaveEnd) → k < 2 ^ 32
+      → ((c : ℕ) (d : S) → c < task.count → Gives task.size k end c (then a.came r.owns c) (seen (slice_index_or olds c d)) (seen (slice_index_or news c d)))
+      → Writes task (then a.came r.owns) k end old new → EndsInterleave task (then a.came r.owns) k end → IsInterleaved seen task olds news old new end
+  ended new end few gives writes ends = record {
     came = then a.came r.owns;
     units = k;
     few = few;
     due = due_before;
-    gives = λ c d inside. (one c d inside).given;
-    writes = (writes_before, a.on);
-    ends = λ c inside. (at c inside).over (sym (held_is c inside) ∙ check c (omega (arith, inside, count_is)));
+    gives = gives;
+    writes = writes;
+    ends = ends;
   }
+
+  -- no byte of this unit came
+  done : k < 2 ^ 32 → ChecksTo b2 k (Err Done) → IsInterleaved seen task olds news old mid Done
+  done few check =
+      ended mid Done few (λ c d inside. (one c d inside).given) (writes_before, a.on)
+      (λ c inside. (at c inside).over (sym (held_is c inside) ∙ check c (omega (arith, inside, count_is))))
 
   -- a capture doesn't have its block whole
   short : (c j bytes : ℕ) → k < 2 ^ 32 → ChecksTo b2 k (Err (Short c j bytes)) → IsInterleaved seen task olds news old mid (Short c j bytes)
   short c j bytes few (is, not, some, counted, before, held, fewer) =
       let inside : c < task.count = omega (arith, counted, count_is) in
       let not_filled : task.fill ≡ false = sym (r.fill ∙ a.fill) ∙ not in
-      record {
-        came = then a.came r.owns;
-        units = k;
-        few = few;
-        due = due_before;
-        gives = λ c d inside. (one c d inside).given;
-        writes = (writes_before, a.on);
-        ends = (
-          is,
-          record {
-            not_filled = not_filled;
-            some = some_is some;
-            capture = inside;
-            before = λ b earlier. (at b (omega (arith, earlier, inside))).whole (omega (arith, before b earlier, held_is b (omega (arith, earlier, inside)), r.size, a.size));
-            held = (at c inside).exact (whole_before c inside not_filled) ∙ ap (λ n. task.size * k + n) (sym (held_is c inside) ∙ held);
-            fewer = omega (arith, fewer, r.size, a.size);
-          },
-        );
-      }
+      ended mid (Short c j bytes) few (λ c d inside. (one c d inside).given) (writes_before, a.on) (
+        is,
+        record {
+          not_filled = not_filled;
+          some = some_is some;
+          capture = inside;
+          before = λ b earlier. (at b (omega (arith, earlier, inside))).whole (omega (arith, before b earlier, held_is b (omega (arith, earlier, inside)), r.size, a.size));
+          held = (at c inside).exact (whole_before c inside not_filled) ∙ ap (λ n. task.size * k + n) (sym (held_is c inside) ∙ held);
+          fewer = omega (arith, fewer, r.size, a.size);
+        },
+      )
 
   -- the unit was written in part
   cut : (new : Seen) → k < 2 ^ 32 → ChecksTo b2 k (Ok tt) → AppendsPrefix mid.bytes new.bytes b2.unit → HasFailed mid new → IsInterleaved seen task olds news old new WriteFault
-  cut new few check begun failed = record {
-    came = then a.came r.owns;
-    units = k;
-    few = few;
-    due = due_before;
-    gives = λ c d inside. (one c d inside).given;
-    writes = record {
-      prefix = begun.taken;
-      left = begun.rest;
-      parts = unit_now ∙ sym begun.whole;
-      more = begun.more;
-      writes = Appends-then old.bytes mid.bytes new.bytes (units_of task (then a.came r.owns) k) begun.taken writes_before begun.grows;
-      failed = fails_after old mid new a.on failed;
-    };
-    ends = due_now check;
-  }
+  cut new few check begun failed =
+      ended new WriteFault few (λ c d inside. (one c d inside).given) (record {
+        prefix = begun.taken;
+        left = begun.rest;
+        parts = unit_now ∙ sym begun.whole;
+        more = begun.more;
+        writes = Appends-then old.bytes mid.bytes new.bytes (units_of task (then a.came r.owns) k) begun.taken writes_before begun.grows;
+        failed = fails_after old mid new a.on failed;
+      }) (due_now check)
 
 module _ {S : Type 0} (seen : S → Seen) (task : Task) (k : ℕ) (b : BuffersState) (olds mids news : List S) (old mid : Seen)
     (a : IsAfter seen task k b olds mids old mid) (n : ℕ) (r : HasFailedAt seen n b mids news) where

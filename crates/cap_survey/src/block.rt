@@ -71,10 +71,7 @@ fn refused_by(answer: &[u8]) -> Option<bool>
 fn is_empty_text(text: Option<&[u8]>) -> bool
     ensures { result ≡ is_empty_text (option_map (λ s. s.now) text.entry) }
 {
-    match text {
-        Some(text) => text.is_empty(),
-        None => false,
-    }
+    matches!(text, Some(text) if text.is_empty())
 }
 
 // Whether a text is one of the causes for which a block is refused. Which one isn't kept, so its number may be any.
@@ -94,28 +91,19 @@ fn is_cause(text: &[u8]) -> bool
 fn is_alone(text: &[u8], name: &[u8]) -> bool
     ensures { result ≡ is_alone name.now text.now }
 {
-    match number_after(text, name) {
-        Some(number) => number.rest.is_empty(),
-        None => false,
-    }
+    matches!(number_after(text, name), Some(number) if number.rest.is_empty())
 }
 
 // Whether a text is `address N found H8`: a frame, and the ID in it, which is of another place.
 fn is_address(text: &[u8]) -> bool
     ensures { result ≡ is_address text.now }
 {
-    match number_after(text, b"address ") {
-        Some(frame) => is_found(frame.rest),
-        None => false,
-    }
+    matches!(number_after(text, b"address "), Some(frame) if is_found(frame.rest))
 }
 
 // Whether a text is ` found ` and the eight digits of an ID.
 fn is_found(text: &[u8]) -> bool
     ensures { result ≡ is_found text.now }
 {
-    match after_text(text, b" found ") {
-        Some(word) => word.len() == 8 && are_hexadecimal(word),
-        None => false,
-    }
+    matches!(after_text(text, b" found "), Some(word) if word.len() == 8 && are_hexadecimal(word))
 }
