@@ -88,6 +88,13 @@ lines_cut at written total n extents prefix back is rest =
     ap (λ l. lines_from at l written total) (sym (take-append-drop n extents) ∙ ap (λ l. l ++ drop n extents) (sym is) ∙ ap (λ l. prefix ++ l) (sym rest))
     ∙ lines_split at written total prefix back
 
+-- The lines of the extents that come next are the first of those that are left to be written.
+pub next_lines : {whole : List ℕ} {old mid : Seen} (at written total n : ℕ) (extents prefix back : List Extent) → IsUnwritten whole (lines_from at extents written total) old mid
+    → prefix ≡ take n extents → back ≡ drop n extents
+    → IsUnwritten whole (extent_lines at prefix ++ lines_from (last_end at prefix) back written total) old mid
+next_lines {whole} {old} {mid} at written total n extents prefix back left is rest =
+    subst (λ l. IsUnwritten whole l old mid) (lines_cut at written total n extents prefix back is rest) left
+
 -- no extent is left
 pub none_left : (extents : List Extent) → length extents ≡ 0 → extents ≡ []
 none_left [] none = refl

@@ -1,5 +1,5 @@
 -- What the closing line of the report of an image says.
-use Rattle.std.specs.Prelude.{ℕ, ◌||◌, nat_lt, Bool, if◌then◌else◌, List, codes, length, take, Option, Some, None, option_and_then, Result, Ok, Err}
+use Rattle.std.specs.Prelude.{ℕ, ◌||◌, nat_lt, Bool, if◌then◌else◌, List, codes, length, take, Option, Some, None, option_and_then, option_map, Result, Ok, Err}
 use Rattle.dvd_layout.specs.Place.{image_before, total_sectors}
 use Rattle.dvd_layout.specs.Plan.{plan_of}
 use Rattle.dvd_layout.specs.declared.layout.Layout.{Layout}
@@ -15,33 +15,30 @@ use Rattle.cap_lost.specs.declared.fault.ReportCause.TheVariants.{Line, Block, F
 abbrev pub is_fault : List ℕ → Bool
 is_fault line = is_text (codes "read fault") line || is_text (codes "write fault") line
 
+-- the number between two texts, where nothing else is in a line
+abbrev pub number_between : List ℕ → List ℕ → List ℕ → Option ℕ
+number_between first last line =
+    option_and_then (λ found. if is_text last found.1 then Some found.0 else None) (option_and_then number_first (without_prefix first line))
+
 -- how many blocks were refused, by the line of a whole image
 abbrev pub counted_in : List ℕ → Option ℕ
 counted_in line =
-    if is_text (codes "done") line then Some 0
-    else option_and_then (λ found. if is_text (codes " blocks") found.1 then Some found.0 else None) (option_and_then number_first (without_prefix (codes "damaged: ") line))
+    if is_text (codes "done") line then Some 0 else number_between (codes "damaged: ") (codes " blocks") line
 
--- a number that is followed by this text, by a further number, and by this text as the last
-abbrev pub number_between : List ℕ → List ℕ → ℕ × List ℕ → Option ℕ
-number_between middle last found =
-    option_and_then (λ more. if is_text last more.1 then Some found.0 else None) (option_and_then number_first (without_prefix middle found.1))
-
--- the block in which a capture ended
-abbrev pub short_in : List ℕ → Option ℕ
-short_in line = option_and_then (number_between (codes ", ") (codes " bytes")) (option_and_then number_first (without_prefix (codes "short: block ") line))
-
--- the block whose marks break a rule
-abbrev pub bad_marks_in : List ℕ → Option ℕ
-bad_marks_in line = option_and_then (number_between (codes ", byte ") (codes "")) (option_and_then number_first (without_prefix (codes "bad marks: block ") line))
+-- the number after the first text, if a further number is between the two others
+abbrev pub block_in : List ℕ → List ℕ → List ℕ → List ℕ → Option ℕ
+block_in first middle last line =
+    option_and_then (λ found. option_map (λ more. found.0) (number_between middle last found.1)) (option_and_then number_first (without_prefix first line))
 
 -- the first of two numbers, if there is one
 abbrev pub or_other : Option ℕ → Option ℕ → Option ℕ
 or_other (Some k) other = Some k
 or_other None other = other
 
--- the block in which the run stopped
+-- the block in which the run stopped: the capture ended there, or its marks break a rule
 abbrev pub stopped_in : List ℕ → Option ℕ
-stopped_in line = or_other (short_in line) (bad_marks_in line)
+stopped_in line =
+    or_other (block_in (codes "short: block ") (codes ", ") (codes " bytes") line) (block_in (codes "bad marks: block ") (codes ", byte ") (codes "") line)
 
 -- The run stopped in block k: the image sectors of the blocks before it were written.
 abbrev pub stopped_at : Layout → Zones → ℕ → Result Said ReportCause

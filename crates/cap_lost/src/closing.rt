@@ -7,7 +7,7 @@
 ghost use Rattle.std.specs.Prelude.{◌≡◌, ◌<◌, length, take, IfOk, IfSome, IfNone};
 ghost use Rattle.dvd_layout.specs.Place.{image_before, image_sectors};
 ghost use Rattle.dvd_layout.specs.Plan.{plan_of};
-ghost use Rattle.cap_lost.specs.Closings.{bad_marks_in, closing_said, counted_in, is_fault, short_in, stopped_at, stopped_in};
+ghost use Rattle.cap_lost.specs.Closings.{block_in, closing_said, counted_in, is_fault, number_between, stopped_at, stopped_in};
 ghost use Rattle.cap_lost.specs.Inner.{NamesSectors};
 
 use crate::draft::Said;
@@ -61,45 +61,41 @@ fn counted_in(line: &[u8]) -> Option<u64>
     if is_text(line, b"done") {
         return Some(0);
     }
-    let (refused, rest) = number_first(without_prefix(line, b"damaged: ")?)?;
-    if is_text(rest, b" blocks") {
-        Some(refused)
+    number_between(line, b"damaged: ", b" blocks")
+}
+
+// The number between two texts, where nothing else is in a line.
+fn number_between(line: &[u8], first: &[u8], last: &[u8]) -> Option<u64>
+    ensures { result ≡ number_between first.now last.now line.now }
+{
+    let (number, rest) = number_first(without_prefix(line, first)?)?;
+    if is_text(rest, last) {
+        Some(number)
     } else {
         None
     }
 }
 
-// The block in which the run stopped: it wasn't whole, or its marks broke a rule. The second number, of bytes, may be
-// any: it isn't used. No line has both forms, so their order is free.
+// The block in which the run stopped. `short: block K, B bytes`: the capture ended in block K, after B of its bytes.
+// `bad marks: block K, byte A`: the marks of a listed capture break a rule in block K. No line has both forms, so their
+// order is free.
 fn stopped_in(line: &[u8]) -> Option<u64>
     ensures { result ≡ stopped_in line.now }
 {
-    match short_in(line) {
+    match block_in(line, b"short: block ", b", ", b" bytes") {
         Some(k) => Some(k),
-        None => bad_marks_in(line),
+        None => block_in(line, b"bad marks: block ", b", byte ", b""),
     }
 }
 
-// `short: block K, B bytes`: the capture ended in block K, after B of its bytes.
-fn short_in(line: &[u8]) -> Option<u64>
-    ensures { result ≡ short_in line.now }
+// The number after the first text, if a further number is between the two others. That one counts bytes and isn't used:
+// it may be any.
+fn block_in(line: &[u8], first: &[u8], middle: &[u8], last: &[u8]) -> Option<u64>
+    ensures { result ≡ block_in first.now middle.now last.now line.now }
 {
-    let (k, rest) = number_first(without_prefix(line, b"short: block ")?)?;
-    let (_, rest) = number_first(without_prefix(rest, b", ")?)?;
-    if is_text(rest, b" bytes") {
-        Some(k)
-    } else {
-        None
-    }
-}
-
-// `bad marks: block K, byte A`: the marks of a listed capture break a rule in block K.
-fn bad_marks_in(line: &[u8]) -> Option<u64>
-    ensures { result ≡ bad_marks_in line.now }
-{
-    let (k, rest) = number_first(without_prefix(line, b"bad marks: block ")?)?;
-    let (_, rest) = number_first(without_prefix(rest, b", byte ")?)?;
-    if rest.is_empty() { Some(k) } else { None }
+    let (k, rest) = number_first(without_prefix(line, first)?)?;
+    number_between(rest, middle, last)?;
+    Some(k)
 }
 
 // The image sectors of the blocks before this one were written. The line doesn't say how many of those were refused.

@@ -4,7 +4,7 @@ use Rattle.dvd_ports.proofs.StopLemmas.{fails_after}
 use Rattle.cap_lost.specs.Inner.{IsUnwritten}
 use Rattle.cap_lost.specs.Map.{last_end, extent_lines, last_lines, lines_from, map_text}
 use Rattle.cap_lost.specs.declared.map.TheConstants.{HEAD}
-use Rattle.cap_lost.proofs.Pieces.{begun_then, last_written, lines_cut, more_written, none_left, none_written, writes_failed}
+use Rattle.cap_lost.proofs.Pieces.{begun_then, last_written, more_written, next_lines, none_left, none_written, writes_failed}
 use Rattle.cap_lost.proofs.map.write_map.Goals as goal
 
 pub returns-in_err-write_whole : goal.returns-in_err-write_whole
@@ -20,31 +20,20 @@ returns-in_err-write_whole g c =
 pub returns-in_err-at : goal.returns-in_err-at
 returns-in_err-at g c =
     let lost = c.args.lost.now in
-    let old = g.K.Sink.seen c.args.out.now in
-    let mid = g.K.Sink.seen c.loop-rest.out in
     let new = g.K.Sink.seen c.write_extents.new.out in
-    let whole = map_text lost.extents.items lost.written c.args.total in
-    let prefix = c.split_at.result.0.now in
-    let back = c.split_at.result.1.now in
-    let cut = lines_cut c.loop-rest.at lost.written c.args.total _ c.loop-rest.rest.now prefix back c.split_at.ensures.front c.split_at.ensures.back in
-    writes_failed c.from_residual-in_err-at.result whole old new c.from_residual-in_err-at.ensures.0
-    (begun_then old mid new whole (extent_lines c.loop-rest.at prefix) (lines_from (last_end c.loop-rest.at prefix) back lost.written c.args.total)
-    (subst (λ l. IsUnwritten whole l old mid) cut c.loop-rest.invariant) c.in_err-at.ensures.begun)
-    (fails_after old mid new c.loop-rest.invariant.steady c.in_err-at.ensures.cause.failed)
+    let left = next_lines c.loop-rest.at lost.written c.args.total _ c.loop-rest.rest.now _ _ c.loop-rest.invariant c.split_at.ensures.front c.split_at.ensures.back in
+    writes_failed c.from_residual-in_err-at.result (map_text lost.extents.items lost.written c.args.total) _ _ c.from_residual-in_err-at.ensures.0
+    (begun_then _ _ new _ _ _ left c.in_err-at.ensures.begun) (fails_after _ _ new left.steady c.in_err-at.ensures.cause.failed)
 
 pub loop-rest-preserved : goal.loop-rest-preserved
 loop-rest-preserved g c =
     let lost = c.args.lost.now in
     let old = g.K.Sink.seen c.args.out.now in
-    let mid = g.K.Sink.seen c.loop-rest.out in
     let new = g.K.Sink.seen c.write_extents.new.out in
     let whole = map_text lost.extents.items lost.written c.args.total in
-    let prefix = c.split_at.result.0.now in
-    let back = c.split_at.result.1.now in
-    let cut = lines_cut c.loop-rest.at lost.written c.args.total _ c.loop-rest.rest.now prefix back c.split_at.ensures.front c.split_at.ensures.back in
-    subst (λ at. IsUnwritten whole (lines_from at back lost.written c.args.total) old new) (sym c.in_ok-at.ensures.end)
-    (more_written old mid new whole (extent_lines c.loop-rest.at prefix) (lines_from (last_end c.loop-rest.at prefix) back lost.written c.args.total)
-    (subst (λ l. IsUnwritten whole l old mid) cut c.loop-rest.invariant) c.in_ok-at.ensures.written c.in_ok-at.ensures.cause.steady)
+    let left = next_lines c.loop-rest.at lost.written c.args.total _ c.loop-rest.rest.now _ _ c.loop-rest.invariant c.split_at.ensures.front c.split_at.ensures.back in
+    subst (λ at. IsUnwritten whole (lines_from at c.split_at.result.1.now lost.written c.args.total) old new) (sym c.in_ok-at.ensures.end)
+    (more_written _ _ _ _ _ _ left c.in_ok-at.ensures.written c.in_ok-at.ensures.cause.steady)
 
 pub returns : goal.returns
 returns g c =

@@ -21,20 +21,14 @@ overflow_add-self c =
 pub returns-in-Ok-clause-read : goal.returns-in-Ok-clause-read
 returns-in-Ok-clause-read c = λ rest.
     let self = c.args.self.now in
-    let next = sayings_of c.read_line.new.draft in
-    let read : line_read self.layout self.zones (sayings_of self.draft) self.line.items ≡ Ok next =
-    subst (λ l. line_read self.layout self.zones (sayings_of self.draft) l ≡ Ok next) c.as_slice.ensures.value c.in-Ok.ensures.read in
-    read_on self.layout self.zones (sayings_of self.draft) self.number self.line.items next rest c.requires.sound.within read
-    ∙ ap (λ l. lines_read self.layout self.zones next (self.number + 1) (lines_of (l ++ rest))) (sym c.clear.ensures)
+    read_on self.layout self.zones (sayings_of self.draft) self.number self.line.items (sayings_of c.read_line.new.draft) rest c.requires.sound.within (rw c.as_slice.ensures.value at c.in-Ok.ensures.read)
+    ∙ ap (λ l. lines_read self.layout self.zones (sayings_of c.read_line.new.draft) (self.number + 1) (lines_of (l ++ rest))) (sym c.clear.ensures)
 
 pub returns-in-Ok-clause-read_last : goal.returns-in-Ok-clause-read_last
 returns-in-Ok-clause-read_last c = λ some.
     let self = c.args.self.now in
-    let next = sayings_of c.read_line.new.draft in
-    let read : line_read self.layout self.zones (sayings_of self.draft) self.line.items ≡ Ok next =
-    subst (λ l. line_read self.layout self.zones (sayings_of self.draft) l ≡ Ok next) c.as_slice.ensures.value c.in-Ok.ensures.read in
-    read_last self.layout self.zones (sayings_of self.draft) self.number self.line.items next some c.requires.sound.within read
-    ∙ ap (λ l. lines_read self.layout self.zones next (self.number + 1) (lines_of (l ++ []))) (sym c.clear.ensures)
+    read_last self.layout self.zones (sayings_of self.draft) self.number self.line.items (sayings_of c.read_line.new.draft) some c.requires.sound.within (rw c.as_slice.ensures.value at c.in-Ok.ensures.read)
+    ∙ ap (λ l. lines_read self.layout self.zones (sayings_of c.read_line.new.draft) (self.number + 1) (lines_of (l ++ []))) (sym c.clear.ensures)
 
 pub returns-in-Err-Rule-clause-rule : goal.returns-in-Err-Rule-clause-rule
 returns-in-Err-Rule-clause-rule c =
