@@ -30,13 +30,21 @@ product-0a a = product-plus a 0xDD 0xD7
 product-44 : (a : ℕ) → a < 256 → product a 0x44 ≡ plus (product a 0x92) (plus (product a 0xD7) a)
 product-44 a byte = product-plus a 0x92 0xD6 ∙ ap (plus (product a 0x92)) (product-plus a 0xD7 1 ∙ ap (plus (product a 0xD7)) (product-one a byte))
 
+-- 0x4F is 0x92 and 0xDD
+product-4f : (a : ℕ) → product a 0x4F ≡ plus (product a 0x92) (product a 0xDD)
+product-4f a = product-plus a 0x92 0xDD
+
+-- 0x98 is 0x92 and 0x0A
+product-98 : (a : ℕ) → product a 0x98 ≡ plus (product a 0x92) (product a 0x0A)
+product-98 a = product-plus a 0x92 0x0A
+
 -- the sums of five bytes that are their word's values at the fifth roots of one. 0x92 is the inverse of 0x44 and 0xDD
 -- that of 0x0A, so the values there come from those at their inverses
 pub record FifthSums (a0 a1 a2 a3 a4 : ℕ) : Type 0 where
   pub zero : plus a0 (plus (plus a1 a4) (plus a2 a3)) ≡ value (a4 ∷ a3 ∷ a2 ∷ a1 ∷ a0 ∷ []) (power alpha 0)
-  pub one : plus (plus (plus a0 (product (plus a1 a2) 0xD7)) a2) (plus (product (plus a1 a4) 0xDD) (product (plus a2 a3) 0x92))
+  pub one : plus (plus (plus a0 (product (plus a1 a2) 0xD7)) a2) (plus (product (plus (plus a1 a4) (plus a2 a3)) 0x92) (product (plus a1 a4) 0x4F))
       ≡ value (a4 ∷ a3 ∷ a2 ∷ a1 ∷ a0 ∷ []) (power alpha 51)
-  pub two : plus (plus (plus a0 (product (plus a1 a2) 0xD7)) a1) (plus (product (plus a2 a3) 0x0A) (product (plus a1 a4) 0x92))
+  pub two : plus (plus (plus a0 (product (plus a1 a2) 0xD7)) a1) (plus (product (plus (plus a1 a4) (plus a2 a3)) 0x92) (product (plus a2 a3) 0x98))
       ≡ value (a4 ∷ a3 ∷ a2 ∷ a1 ∷ a0 ∷ []) (power alpha 102)
   pub three : plus (value (a4 ∷ a3 ∷ a2 ∷ a1 ∷ a0 ∷ []) (power alpha 102)) (plus (product (plus (plus a1 a4) (plus a2 a3)) 0xD7) (plus a1 a4))
       ≡ value (a4 ∷ a3 ∷ a2 ∷ a1 ∷ a0 ∷ []) (power alpha 153)
@@ -84,8 +92,8 @@ module _ (a0 a1 a2 a3 a4 : ℕ) (byte0 : a0 < 256) (byte1 : a1 < 256) (byte2 : a
   pub fifth_sums : FifthSums a0 a1 a2 a3 a4
   fifth_sums = record {
     zero = rw value-zero (simp ring);
-    one = rw (value-one, product-0a a1, product-44 a2 byte2) (simp ring);
-    two = rw (value-two, product-44 a1 byte1, product-0a a3, product-0a (plus a2 a3)) (simp ring);
+    one = rw (value-one, product-0a a1, product-44 a2 byte2, product-4f (plus a1 a4)) (simp ring);
+    two = rw (value-two, product-44 a1 byte1, product-0a a3, product-98 (plus a2 a3), product-0a (plus a2 a3)) (simp ring);
     three = rw (value-two, value-three, product-44 a1 byte1, product-44 a4 byte4, product-0a a2, product-0a a3) (simp ring);
     four = rw (value-one, value-four, product-0a a1, product-0a a4, product-44 a2 byte2, product-44 a3 byte3) (simp ring);
   }

@@ -54,7 +54,7 @@ fn turned(lanes: u8x32, turns: usize) -> u8x32
 }
 
 // The values of each lane's word `y4 y3 y2 y1 y0` at the fifth roots of one: result `m` has those at alpha^(51 `m`).
-// A product for each of four bytes and each root but 1 would be sixteen. Roots in pairs with their inverses need six.
+// A product for each of four bytes and each root but 1 would be sixteen. Roots in pairs with their inverses need five.
 // For each `m` there is one value, in the order in which `exponent` of `thirds` has the five exponents.
 #[inline(always)]
 fn fifths(y0: u8x32, y1: u8x32, y2: u8x32, y3: u8x32, y4: u8x32) -> [u8x32; 5]
@@ -67,14 +67,19 @@ fn fifths(y0: u8x32, y1: u8x32, y2: u8x32, y3: u8x32, y4: u8x32) -> [u8x32; 5]
     // for y1 and 0x92 for y2 too, y1 goes with y4 and y2 with y3, and two products serve four bytes. `crossed` puts
     // right what that changes, but for the 1 in 0xD7 + 1: so y2 is added once more. That makes `first`, the value at
     // 0x0A, and that at 0xDD comes of it. `second` is that at 0x44 likewise, with 0x92 for y1 and 0x0A for y2: here y1
-    // is added once more. It gives that at 0x92.
+    // is added once more. It gives that at 0x92. One of the two pairs is multiplied by 0x92 in both: `shared` does so
+    // for both pairs at once, and the other pair then needs 0x4F in the place of 0xDD, or 0x98 in that of 0x0A.
     let ends = xor(y1, y4);
     let middle = xor(y2, y3);
     let both = xor(ends, middle);
     let turned = times(&products(0xD7), both);
     let crossed = xor(y0, times(&products(0xD7), xor(y1, y2)));
-    let first = xor(xor(crossed, y2), weighed(ends, 0xDD, middle, 0x92));
-    let second = xor(xor(crossed, y1), weighed(middle, 0x0A, ends, 0x92));
+    let shared = times(&products(0x92), both);
+    let first = xor(xor(crossed, y2), xor(shared, times(&products(0x4F), ends)));
+    let second = xor(
+        xor(crossed, y1),
+        xor(shared, times(&products(0x98), middle)),
+    );
     [
         xor(y0, both),
         first,
@@ -82,12 +87,4 @@ fn fifths(y0: u8x32, y1: u8x32, y2: u8x32, y3: u8x32, y4: u8x32) -> [u8x32; 5]
         xor(second, xor(turned, ends)),
         xor(first, xor(turned, middle)),
     ]
-}
-
-// The sum of two vectors, each times a factor of its own.
-#[inline(always)]
-fn weighed(a: u8x32, factor: u8, b: u8x32, other: u8) -> u8x32
-    ensures { HasLanes result (λ j. plus (product (slice_index a j) factor) (product (slice_index b j) other)) }
-{
-    xor(times(&products(factor), a), times(&products(other), b))
 }

@@ -21,7 +21,10 @@ returns c =
     (byte_lane 32 c.args.y0 c.fits-y0 j below) (byte_lane 32 c.args.y1 c.fits-y1 j below) (byte_lane 32 c.args.y2 c.fits-y2 j below)
     (byte_lane 32 c.args.y3 c.fits-y3 j below) (byte_lane 32 c.args.y4 c.fits-y4 j below) in
     let turned = c.times-turned.ensures 0xD7 c.products.ensures in
-    let shared = c.times.ensures 0xD7 c.products-2.ensures in
+    let inner = c.times.ensures 0xD7 c.products-2.ensures in
+    let shared = c.times-shared.ensures 0x92 c.products-3.ensures in
+    let outer = c.times-2.ensures 0x4F c.products-4.ensures in
+    let middles = c.times-3.ensures 0x98 c.products-5.ensures in
     let ends = c.xor-ends.ensures in
     let middle = c.xor-middle.ensures in
     let both = c.xor-both.ensures in
@@ -29,31 +32,31 @@ returns c =
     let first : HasLanes c.xor-first.result (values 1) = record {
       size = c.xor-first.ensures.size;
       each = λ j below.
-          rw (c.xor-first.ensures.each j below, c.xor-2.ensures.each j below, crossed.each j below, shared.each j below, c.xor.ensures.each j below, c.weighed.ensures.each j below, ends.each j below, middle.each j below)
+          rw (c.xor-first.ensures.each j below, c.xor-2.ensures.each j below, crossed.each j below, inner.each j below, c.xor.ensures.each j below, c.xor-3.ensures.each j below, shared.each j below, outer.each j below, both.each j below, ends.each j below, middle.each j below)
           (sums j below).one;
     } in
     let second : HasLanes c.xor-second.result (values 2) = record {
       size = c.xor-second.ensures.size;
       each = λ j below.
-          rw (c.xor-second.ensures.each j below, c.xor-3.ensures.each j below, crossed.each j below, shared.each j below, c.xor.ensures.each j below, c.weighed-2.ensures.each j below, ends.each j below, middle.each j below)
+          rw (c.xor-second.ensures.each j below, c.xor-4.ensures.each j below, crossed.each j below, inner.each j below, c.xor.ensures.each j below, c.xor-5.ensures.each j below, shared.each j below, middles.each j below, both.each j below, ends.each j below, middle.each j below)
           (sums j below).two;
     } in
-    each_of_five (λ m. HasLanes (line (c.xor-4.result ∷ c.xor-first.result ∷ c.xor-second.result ∷ c.xor-6.result ∷ c.xor-8.result ∷ []) m) (values m))
+    each_of_five (λ m. HasLanes (line (c.xor-6.result ∷ c.xor-first.result ∷ c.xor-second.result ∷ c.xor-8.result ∷ c.xor-10.result ∷ []) m) (values m))
     (record {
-      size = c.xor-4.ensures.size;
-      each = λ j below. rw (c.xor-4.ensures.each j below, both.each j below, ends.each j below, middle.each j below) (sums j below).zero;
+      size = c.xor-6.ensures.size;
+      each = λ j below. rw (c.xor-6.ensures.each j below, both.each j below, ends.each j below, middle.each j below) (sums j below).zero;
     })
     first
     second
     (record {
-      size = c.xor-6.ensures.size;
+      size = c.xor-8.ensures.size;
       each = λ j below.
-          rw (c.xor-6.ensures.each j below, c.xor-5.ensures.each j below, turned.each j below, both.each j below, second.each j below, ends.each j below, middle.each j below)
+          rw (c.xor-8.ensures.each j below, c.xor-7.ensures.each j below, turned.each j below, both.each j below, second.each j below, ends.each j below, middle.each j below)
           (sums j below).three;
     })
     (record {
-      size = c.xor-8.ensures.size;
+      size = c.xor-10.ensures.size;
       each = λ j below.
-          rw (c.xor-8.ensures.each j below, c.xor-7.ensures.each j below, turned.each j below, both.each j below, first.each j below, ends.each j below, middle.each j below)
+          rw (c.xor-10.ensures.each j below, c.xor-9.ensures.each j below, turned.each j below, both.each j below, first.each j below, ends.each j below, middle.each j below)
           (sums j below).four;
     })
