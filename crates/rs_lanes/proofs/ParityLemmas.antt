@@ -1,13 +1,14 @@
 -- Parity by its values: sums of the columns of a matrix (combined, combined-zero, combined_more, combined_bytes), which
--- have the values where the matrix is a basis (combined_values); zeros after a word (filled-whole, filled-bytes), and
+-- have the values where the matrix is a basis (combined_values); zeros after a word (filled-whole, filled-bytes; lane_filled,
+-- column_filled of the first places of a lane and of a column, which 73 and 47 zeros before them make whole), and
 -- the encoded word, whose parity has the values of the message followed by zeros (encoded_by_values); encoded_kept
 -- where columns stay.
-use Rattle.std.proofs.Common.{◌≡◌, ◌≢◌, ℕ, zero, suc, ◌+◌, ◌-◌, ◌<◌, ◌≤◌, List, ◌++◌, length, get_or, replicate, All, refl, sym, ap, subst, ◌∙◌, inl, inr, arith, add-one, length-append, ◌==◌, if◌then◌else◌}
+use Rattle.std.proofs.Common.{◌≡◌, ◌≢◌, ℕ, zero, suc, ◌+◌, ◌-◌, ◌<◌, ◌≤◌, List, ◌++◌, map, take, length, get_or, replicate, All, refl, sym, ap, subst, ◌∙◌, inl, inr, arith, add-one, length-append, length-take-le, ◌==◌, if◌then◌else◌}
 use Rattle.std.proofs.lemmas.Bool.{cases_eq, cases_lt}
 use Rattle.std.proofs.lemmas.Bool.Decides.{nat_tests}
 use Rattle.std.proofs.lemmas.Grind.{same_number_lists}
 use Rattle.std.proofs.lemmas.List.Elements.{All-get_or, All-from_get_or, All-append}
-use Rattle.std.proofs.lemmas.List.{append-nil, get_or_append_left, get_or-append_right, get_or_past}
+use Rattle.std.proofs.lemmas.List.{append-nil, length-map, get_or_append_left, get_or-append_right, get_or_past}
 use Rattle.std.proofs.lemmas.Simd.{length-replicate, get_or-replicate}
 use Rattle.coding.specs.Field.{alpha, plus, product, power}
 use Rattle.coding.specs.Words.{IsByte, IsEncoded, value}
@@ -170,6 +171,22 @@ get_or-zeros n k =
       | inl inside ↦ get_or-replicate {A = ℕ} n k 0 0 inside
       | inr past ↦ get_or_past (replicate {A = ℕ} n 0) k 0 (omega (arith, length-replicate {A = ℕ} n 0))
     ]
+
+-- the first places of a lane
+pub lane_short : (transposed : List (List ℕ)) (count n : ℕ) → length transposed ≡ 182 → count ≤ 182 → length (take count (column transposed n)) ≤ 182
+lane_short transposed count n many few = omega (arith, length-take-le count (column transposed n) (omega (arith, length-column transposed n)))
+
+-- with zeros put after and before them, they are 255 places
+pub lane_filled : (transposed : List (List ℕ)) (count n : ℕ) → length transposed ≡ 182 → count ≤ 182 → 73 + length (filled 182 (take count (column transposed n))) ≡ 255
+lane_filled transposed count n many few = omega (arith, length-filled 182 (take count (column transposed n)) (lane_short transposed count n many few))
+
+-- a column of at most 208 rows
+pub column_short : {A : Type 0} (word : A → List ℕ) (rows : List A) (j : ℕ) → length rows ≤ 208 → length (column (map word rows) j) ≤ 208
+column_short word rows j few = omega (arith, length-column (map word rows) j, length-map rows word)
+
+-- filled up with zeros, and with 47 before it, it has 255 places
+pub column_filled : {A : Type 0} (word : A → List ℕ) (rows : List A) (j : ℕ) → length rows ≤ 208 → 47 + length (filled 208 (column (map word rows) j)) ≡ 255
+column_filled word rows j few = omega (arith, length-filled 208 (column (map word rows) j) (column_short word rows j few))
 
 -- a place of a filled word is that of the word: it is 0 past the word's end, as after any word
 pub get_or-filled : (size : ℕ) (word : List ℕ) (k : ℕ) → get_or (filled size word) k 0 ≡ get_or word k 0

@@ -1,23 +1,25 @@
 -- Words cut into pieces of one size that are added up (length-folded, get_or-folded_zero, get_or-folded_suc,
 -- value-folded), zeros before a word (`after_zeros`, zeros_in_front), and the thirds of words in 32 lanes (third-zero,
--- third-one, third-two, each_of_three, HasThirds with thirds_more, thirds_bytes, `thirds_told`).
+-- third-one, third-two, each_of_three, turned_once, turned_twice, turned_back; `AreStored` with none_stored, thirds_more,
+-- thirds_bytes, `thirds_told`).
 use Rattle.std.proofs.Common.{◌≡◌, ℕ, zero, suc, ◌+◌, ◌-◌, ◌*◌, ◌/◌, ◌%◌, ◌<◌, ◌≤◌, List, [], length, get_or, set, take, drop, replicate, All, refl, sym, ap, subst, ◌∙◌, inl, inr, arith, length-append, length-take-le, length-set, get_or-take, get_or-drop, get_or-set_other}
 use Rattle.std.proofs.Math.ListN.{get_or-map}
 use Rattle.std.proofs.Math.Seq.{take-add, take-length}
 use Rattle.std.proofs.lemmas.Bool.{cases_eq}
 use Rattle.std.proofs.lemmas.Grind.{get_or-set_at, same_number_lists}
 use Rattle.std.proofs.lemmas.List.Elements.{All-from_get_or}
+use Rattle.std.proofs.lemmas.List.FromFn.{get_or-map-range_with_len, length-map-range_with_len}
 use Rattle.std.proofs.lemmas.List.{length-map, get_or_append_left, get_or-append_right}
 use Rattle.std.proofs.lemmas.Simd.{length-chunk, length-replicate, get_or-replicate}
 use Rattle.coding.specs.Field.{alpha, plus, shift, shifted, partial_product, product, power}
 use Rattle.coding.specs.Words.{IsByte, value}
-use Rattle.gf_field.proofs.FieldLaws.{plus-byte, plus-product, product-plus, product-comm, product-assoc, one-product, power-zero, power-mul, power-alpha-mod, power-alpha-shifted, zero-product, zero-plus}
+use Rattle.gf_field.proofs.FieldLaws.{plus-byte, plus-product, product-plus, product-comm, product-assoc, one-product, product-byte, product-one, power-zero, power-one, power-add, power-mul, power-byte, power-alpha-mod, power-alpha-shifted, zero-product, zero-plus}
 use Rattle.rs_code.specs.Inner.Polynomials.{scaled}
 use Rattle.rs_code.proofs.Ring.{ring}
 use Rattle.rs_code.proofs.Values.{value-append, value-sum_of, value-scaled, value-zeros, length-sum_of, get_or-sum_of, length-scaled, get_or-scaled, value-more}
 use Rattle.coding.specs.Rows.{line, place}
 use Rattle.rs_lanes.specs.Inner.Lanes.{HasLanes}
-use Rattle.rs_lanes.specs.Inner.Thirds.{after_zeros, folded, third_byte, third, IsThird}
+use Rattle.rs_lanes.specs.Inner.Thirds.{after_zeros, folded, third_byte, third_at, third, AreStored, IsThird}
 
 -- pieces that are added up have the size of one
 pub length-folded : (size factor : ℕ) (word : List ℕ) (i : ℕ) → size * i + size ≤ length word → length (folded size factor word i) ≡ size
@@ -190,6 +192,69 @@ each_of_three P p0 p1 p2 (suc zero) below = p1
 each_of_three P p0 p1 p2 (suc (suc zero)) below = p2
 each_of_three P p0 p1 p2 (suc (suc (suc i))) below = absurd (omega arith)
 
+-- ---- turns of thirds
+
+-- powers of alpha whose exponents add up to a multiple of 255 change nothing together
+pub turned_back : (a e f : ℕ) → a < 256 → (e + f) % 255 ≡ 0 → product (product a (power alpha e)) (power alpha f) ≡ a
+turned_back a e f byte whole =
+    product-assoc a (power alpha e) (power alpha f)
+    ∙ ap (product a) (sym (power-add alpha e f) ∙ sym (power-alpha-mod (e + f)) ∙ ap (power alpha) whole ∙ power-zero alpha)
+    ∙ product-one a byte
+
+-- Horner's rule on three bytes, multiplied by a factor whose third power is 1
+horner-turned : (w a b c : ℕ) → product w (product w (product w a)) ≡ a
+    → plus (product w (plus (product w b) c)) a ≡ product (plus (product w (plus (product w a) b)) c) w
+horner-turned w a b c cube =
+    ap (plus (product w (plus (product w b) c))) (sym cube) ∙ simp ring
+
+-- the three pieces' places in a circle turn a third
+third-turned : (i a b c : ℕ) → a < 256 → third_byte i b c a ≡ product (third_byte i a b c) (power alpha (85 * i))
+third-turned i a b c byte =
+    let w = power alpha (85 * i) in
+    let square : product w w ≡ power alpha (85 * i + 85 * i) = sym (power-add alpha (85 * i) (85 * i)) in
+    let all : (85 * i + 85 * i + 85 * i) % 255 ≡ 0 = omega arith in
+    let cube : product w (product w (product w a)) ≡ a =
+    ap (product w) (sym (product-assoc w w a) ∙ product-comm (product w w) a)
+    ∙ product-comm w (product a (product w w))
+    ∙ ap (λ s. product (product a s) w) square
+    ∙ turned_back a (85 * i + 85 * i) (85 * i) byte all in
+    horner-turned w a b c cube
+
+-- exponents of a turn are the same for turns that are the same by 3
+turns_same : (i turns rest : ℕ) → i < 3 → turns % 3 ≡ rest % 3 → power alpha (85 * (i * turns)) ≡ power alpha (85 * (i * rest))
+turns_same i turns rest below same =
+    let exponents : 85 * (i * turns) % 255 ≡ 85 * (i * rest) % 255 =
+    each_of_three (λ i. 85 * (i * turns) % 255 ≡ 85 * (i * rest) % 255) (omega arith) (omega (arith, same)) (omega (arith, same)) i below in
+    sym (power-alpha-mod (85 * (i * turns))) ∙ ap (power alpha) exponents ∙ power-alpha-mod (85 * (i * rest))
+
+-- a third that isn't turned
+pub turned_none : (i turns b : ℕ) → i < 3 → turns % 3 ≡ 0 → b < 256 → b ≡ product b (power alpha (85 * (i * turns)))
+turned_none i turns b below rest byte =
+    let none : 85 * (i * 0) ≡ 0 = omega arith in
+    sym (ap (product b) (turns_same i turns 0 below rest ∙ ap (power alpha) none ∙ power-zero alpha) ∙ product-one b byte)
+
+-- one that is turned i times
+pub turned_once : (i turns a b c : ℕ) → i < 3 → turns % 3 ≡ 1 → a < 256 → third_byte i b c a ≡ product (third_byte i a b c) (power alpha (85 * (i * turns)))
+turned_once i turns a b c below rest byte =
+    let one : 85 * (i * 1) ≡ 85 * i = omega arith in
+    third-turned i a b c byte ∙ ap (product (third_byte i a b c)) (sym (turns_same i turns 1 below rest ∙ ap (power alpha) one))
+
+-- and one that is turned 2 i times
+pub turned_twice : (i turns a b c : ℕ) → i < 3 → turns % 3 ≡ 2 → a < 256 → b < 256 → third_byte i c a b ≡ product (third_byte i a b c) (power alpha (85 * (i * turns)))
+turned_twice i turns a b c below rest byte_a byte_b =
+    let two : 85 * (i * 2) ≡ 85 * i + 85 * i = omega arith in
+    third-turned i b c a byte_b
+    ∙ ap (λ t. product t (power alpha (85 * i))) (third-turned i a b c byte_a)
+    ∙ product-assoc (third_byte i a b c) (power alpha (85 * i)) (power alpha (85 * i))
+    ∙ ap (product (third_byte i a b c)) (sym (power-add alpha (85 * i) (85 * i)) ∙ sym (turns_same i turns 2 below rest ∙ ap (power alpha) two))
+
+-- what is stored of a place, turned i times more for each piece after its own
+pub stored_back : (i q b : ℕ) → i < 3 → b < 256 → product (product b (power alpha (85 * (i * (2 * (4 - q / 17)))))) (power alpha (85 * (i * (4 - q / 17)))) ≡ b
+stored_back i q b below byte =
+    let n = 4 - q / 17 in
+    turned_back b (85 * (i * (2 * n))) (85 * (i * n)) byte
+    (each_of_three (λ i. (85 * (i * (2 * n)) + 85 * (i * n)) % 255 ≡ 0) (omega arith) (omega arith) (omega arith) i below)
+
 -- a third whose places are the pieces' sums has the word's values
 pub IsThird-folded : (zeros i : ℕ) (word sums : List ℕ) → zeros + length word ≡ 255 → length sums ≡ 85
     → ((q : ℕ) → q < 85 → get_or sums q 0 ≡ get_or (folded 85 (power alpha (85 * i)) (after_zeros zeros word) 2) q 0)
@@ -212,16 +277,23 @@ IsThird-folded zeros i word sums whole size same =
           ∙ value-after_zeros zeros word x;
     }
 
--- the place of a third is the one of its vectors
-pub get_or-third : (thirds : List (List (List ℕ))) (i j q : ℕ) → get_or (third thirds i j) q 0 ≡ place (get_or thirds q []) i j
-get_or-third thirds i j q = get_or-map (λ vectors. place vectors i j) thirds q []
+-- a third has 85 places
+pub length-third : (thirds : List (List (List ℕ))) (i j : ℕ) → length (third thirds i j) ≡ 85
+unfolding third
+length-third thirds i j = length-map-range_with_len (third_at thirds i j) 0 85
 
--- the places below `to` of 32 words after zeros are added up to thirds, and are bytes
-pub record HasThirds (zeros : ℕ) (word : ℕ → List ℕ) (to : ℕ) (thirds : List (List (List ℕ))) : Type 0 where
-  pub size : length thirds ≡ 85
-  pub set : (q i j : ℕ) → q < to → i < 3 → j < 32
-      → place (get_or thirds q []) i j ≡ get_or (folded 85 (power alpha (85 * i)) (after_zeros zeros (word j)) 2) q 0
-  pub bytes : (q m j : ℕ) → q < to → m < 3 → j < 32 → get_or (after_zeros zeros (word j)) (85 * m + q) 0 < 256
+-- each by what is stored of it
+pub get_or-third : (thirds : List (List (List ℕ))) (i j q : ℕ) → q < 85 → get_or (third thirds i j) q 0 ≡ third_at thirds i j q
+unfolding third
+get_or-third thirds i j q below = get_or-map-range_with_len (third_at thirds i j) 0 85 q q 0 below (omega arith)
+
+-- at the beginning no place is asked for
+pub none_stored : (count : ℕ) (word : ℕ → List ℕ) (thirds : List (List (List ℕ))) → length thirds ≡ 85 → AreStored count word 0 thirds
+none_stored count word thirds size = record {
+  size = size;
+  set = λ q i j below. absurd (omega arith);
+  bytes = λ q m j below. absurd (omega arith);
+}
 
 -- a place of the three pieces added up to one
 third_byte-folded : (i q a b c : ℕ) (padded : List ℕ) → length padded ≡ 255 → q < 85
@@ -234,28 +306,35 @@ third_byte-folded i q a b c padded long below is_a is_b is_c =
     is_c
 
 -- one place more
-pub thirds_more : (zeros : ℕ) (word : ℕ → List ℕ) (q : ℕ) (thirds : List (List (List ℕ))) (a b c : List ℕ) (three : List (List ℕ))
-    → q < 85
+pub thirds_more : (zeros : ℕ) (word : ℕ → List ℕ) (q to turns : ℕ) (thirds : List (List (List ℕ))) (a b c : List ℕ) (three : List (List ℕ))
+    → q < 85 → to ≡ q + 1 → turns ≡ 2 * (4 - q / 17)
     → ((j : ℕ) → zeros + length (word j) ≡ 255)
-    → HasThirds zeros word q thirds
+    → AreStored zeros word q thirds
     → ((j : ℕ) → j < 32 → get_or a j 0 ≡ get_or (after_zeros zeros (word j)) q 0)
     → ((j : ℕ) → j < 32 → get_or b j 0 ≡ get_or (after_zeros zeros (word j)) (85 + q) 0)
     → ((j : ℕ) → j < 32 → get_or c j 0 ≡ get_or (after_zeros zeros (word j)) (170 + q) 0)
     → ((j : ℕ) → j < 32 → (get_or a j 0 < 256) × (get_or b j 0 < 256) × (get_or c j 0 < 256))
-    → ((i : ℕ) → i < 3 → HasLanes (line three i) (λ j. third_byte i (get_or a j 0) (get_or b j 0) (get_or c j 0)))
-    → HasThirds zeros word (q + 1) (set thirds q three)
-thirds_more zeros word q thirds a b c three inside whole has is_a is_b is_c bytes sums = record {
+    → ((i : ℕ) → i < 3 → HasLanes (line three i) (λ j. product (third_byte i (get_or a j 0) (get_or b j 0) (get_or c j 0)) (power alpha (85 * (i * turns)))))
+    → AreStored zeros word to (set thirds q three)
+thirds_more zeros word q to turns thirds a b c three inside is_to is_turns whole has is_a is_b is_c bytes sums = record {
   size = length-set thirds q three ∙ has.size;
   set = λ p i j below third lane.
       let long : length (after_zeros zeros (word j)) ≡ 255 = length-after_zeros zeros (word j) ∙ whole j in
       let size = has.size in
       elim (cases_eq p q) [
         | inl same ↦
-            ap (λ vectors. place vectors i j) (get_or-set_at thirds q p three [] same (omega arith))
-            ∙ (sums i third).each j lane
+            let factor = power alpha (85 * (i * (4 - p / 17))) in
+            let byte : third_byte i (get_or a j 0) (get_or b j 0) (get_or c j 0) < 256 = plus-byte _ _ (product-byte _ _) (bytes j lane).2 in
+            ap (λ vectors. product (place vectors i j) factor) (get_or-set_at thirds q p three [] same (omega arith))
+            ∙ ap (λ b. product b factor) ((sums i third).each j lane)
+            ∙ ap (λ n. product (product (third_byte i (get_or a j 0) (get_or b j 0) (get_or c j 0)) (power alpha (85 * (i * n)))) factor) is_turns
+            ∙ ap (λ n. product (product (third_byte i (get_or a j 0) (get_or b j 0) (get_or c j 0)) (power alpha (85 * (i * (2 * (4 - q / 17)))))) (power alpha (85 * (i * (4 - n / 17))))) same
+            ∙ stored_back i q _ third byte
             ∙ third_byte-folded i q (get_or a j 0) (get_or b j 0) (get_or c j 0) (after_zeros zeros (word j)) long inside (is_a j lane) (is_b j lane) (is_c j lane)
             ∙ ap (λ n. get_or (folded 85 (power alpha (85 * i)) (after_zeros zeros (word j)) 2) n 0) (sym same)
-        | inr apart ↦ ap (λ vectors. place vectors i j) (get_or-set_other thirds q p three [] apart) ∙ has.set p i j (omega arith) third lane
+        | inr apart ↦
+            ap (λ vectors. product (place vectors i j) (power alpha (85 * (i * (4 - p / 17))))) (get_or-set_other thirds q p three [] apart)
+            ∙ has.set p i j (omega arith) third lane
       ];
   bytes = λ p m j below third lane.
       elim (cases_eq p q) [
@@ -273,7 +352,7 @@ thirds_more zeros word q thirds a b c three inside whole has is_a is_b is_c byte
 }
 
 -- a word whose places after zeros were all added up has bytes
-pub thirds_bytes : (zeros : ℕ) (word : ℕ → List ℕ) (thirds : List (List (List ℕ))) (j : ℕ) → zeros + length (word j) ≡ 255 → HasThirds zeros word 85 thirds → j < 32
+pub thirds_bytes : (zeros : ℕ) (word : ℕ → List ℕ) (thirds : List (List (List ℕ))) (j : ℕ) → zeros + length (word j) ≡ 255 → AreStored zeros word 85 thirds → j < 32
     → All IsByte (word j)
 thirds_bytes zeros word thirds j whole has lane =
     All-from_get_or IsByte (word j) 0
@@ -287,8 +366,8 @@ thirds_bytes zeros word thirds j whole has lane =
     subst (λ b. b < 256) is (has.bytes (p % 85) (p / 85) j (omega arith) (omega arith) lane))
 
 -- and its thirds have its values
-pub thirds_told : (zeros : ℕ) (word : ℕ → List ℕ) (thirds : List (List (List ℕ))) (i j : ℕ) → zeros + length (word j) ≡ 255 → HasThirds zeros word 85 thirds → i < 3 → j < 32
+pub thirds_told : (zeros : ℕ) (word : ℕ → List ℕ) (thirds : List (List (List ℕ))) (i j : ℕ) → zeros + length (word j) ≡ 255 → AreStored zeros word 85 thirds → i < 3 → j < 32
     → IsThird i (word j) (third thirds i j)
 thirds_told zeros word thirds i j whole has below lane =
-    IsThird-folded zeros i (word j) (third thirds i j) whole (length-map thirds (λ vectors. place vectors i j) ∙ has.size)
-    (λ q inside. get_or-third thirds i j q ∙ has.set q i j inside below lane)
+    IsThird-folded zeros i (word j) (third thirds i j) whole (length-third thirds i j)
+    (λ q inside. get_or-third thirds i j q inside ∙ has.set q i j inside below lane)

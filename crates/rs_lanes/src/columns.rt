@@ -4,22 +4,22 @@
 //! Values are found by thirds. With 47 zeros before it a column is three pieces of 85 bytes. They are added up to one
 //! piece in three ways: each sum, a third, has the values of the column at those alpha^k whose k has one remainder by
 //! 3. Horner's rule, a row at a time, would take a product for each row and value, 16 times 208. Thirds take less than
-//! a quarter of that: the 208 rows are read once for all values, and 85 places are left. What is done for each row is
+//! a fifth of that: the 208 rows are read once for all values, and 85 places are left. What is done for each row is
 //! inlined, so that its vectors needn't pass through memory. In contracts `filled 208` is a column followed by zeros,
 //! up to 208 places. A vector is a list there, whose length its type doesn't say: so `lanes` says it.
-ghost use Rattle.std.specs.Prelude.{◌≡◌, ℕ, ◌+◌, ◌<◌, ◌≤◌, List, ◌++◌, length, map, slice_index, EachIndex, All};
+ghost use Rattle.std.specs.Prelude.{◌≡◌, ℕ, ◌+◌, ◌*◌, ◌<◌, ◌≤◌, List, ◌++◌, length, map, slice_index, EachIndex, All};
 ghost use Rattle.coding.specs.Field.{alpha, power};
 ghost use Rattle.coding.specs.Words.{IsByte, IsEncoded, value};
 ghost use Rattle.coding.specs.Rows.{line, place, column};
 ghost use Rattle.rs_lanes.specs.Inner.Lanes.{HasLanes};
 ghost use Rattle.rs_lanes.specs.Inner.Parity.{filled};
-ghost use Rattle.rs_lanes.specs.Inner.Thirds.{after_zeros, third, IsThird};
+ghost use Rattle.rs_lanes.specs.Inner.Thirds.{after_zeros, third, AreStored, IsThird};
 
 use crate::lanes::{load, store};
 use crate::matrices::PO_MATRIX;
 use crate::parity::parity_of;
 use crate::row::Row;
-use crate::thirds::{thirds_of, values_of};
+use crate::thirds::{turned_thirds, values_of};
 use std::simd::prelude::*;
 
 /// Sets all bytes of sixteen rows to the outer parity of 192 rows: each column is then followed by its parity. What
@@ -122,10 +122,9 @@ fn lanes_at(row: &[u8; 182], at: usize) -> u8x32
     load(row, at)
 }
 
-// Sets all thirds to those of the 32 columns from `at` on, of 208 rows or of fewer with zeros below. Place `place` of a
-// third is made of that place of the three pieces. They are put where the caller has them, so that 8,160 bytes needn't
-// be copied. `count` is the number of rows, as a constant where this is inlined: few places need a test then. Also
-// ensures that the elements of the columns are bytes.
+// Sets all thirds to those of the 32 columns from `at` on, of 208 rows or of fewer with zeros below. They are put where
+// the caller has them, so that 8,160 bytes needn't be copied. `count` is the number of rows, as a constant where this
+// is inlined: few places need a test then. Also ensures that the elements of the columns are bytes.
 #[inline(always)]
 fn put_thirds<T: Row>(rows: &[T], count: usize, at: usize, thirds: &mut [[u8x32; 3]; 85])
     requires at { at + 32 ≤ 182 }
@@ -134,8 +133,35 @@ fn put_thirds<T: Row>(rows: &[T], count: usize, at: usize, thirds: &mut [[u8x32;
     ensures bytes { (j : ℕ) → j < 32 → All IsByte (column (map T.word rows.now) (at + j)) }
     ensures thirds { (i j : ℕ) → i < 3 → j < 32 → IsThird i (filled 208 (column (map T.word rows.now) (at + j))) (third thirds.new i j) }
 {
-    for place in 0..85 {
-        thirds[place] = thirds_of(
+    // There is a call for each piece, so that its turns are a constant where this is inlined.
+    put_piece(rows, count, at, 0, thirds);
+    put_piece(rows, count, at, 1, thirds);
+    put_piece(rows, count, at, 2, thirds);
+    put_piece(rows, count, at, 3, thirds);
+    put_piece(rows, count, at, 4, thirds);
+}
+
+// Sets one of the five pieces of all thirds, turned as `fifths` needs it; the pieces before it stay. Place `place` of a
+// third is made of that place of the word's three pieces.
+#[inline(always)]
+fn put_piece<T: Row>(
+    rows: &[T],
+    count: usize,
+    at: usize,
+    piece: usize,
+    thirds: &mut [[u8x32; 3]; 85],
+)
+    requires at { at + 32 ≤ 182 }
+    requires count { count ≤ 208 }
+    requires rows { length rows.now ≡ count }
+    requires piece { piece < 5 }
+    ensures { AreStored 47 (λ j. filled 208 (column (map T.word rows.now) (at + j))) (17 * piece) thirds.old
+        → AreStored 47 (λ j. filled 208 (column (map T.word rows.now) (at + j))) (17 * piece + 17) thirds.new }
+{
+    for q in 0..17 {
+        let place = 17 * piece + q;
+        thirds[place] = turned_thirds(
+            2 * (4 - piece),
             padded(rows, count, at, place),
             padded(rows, count, at, 85 + place),
             padded(rows, count, at, 170 + place),

@@ -2,7 +2,8 @@
 //! are asked for at the alpha^k with k below 15 and k mod 3 = i; its pieces have seventeen bytes. Horner's rule over
 //! pieces needs the 17th power of alpha^k. These five powers are one of them times the fifth roots of one, so the sums
 //! are values of words of five bytes at these roots.
-//! A turn is a product with alpha^85. This is a third root of one, so three turns change nothing.
+//! A turn is a product with alpha^85. This is a third root of one, so three turns change nothing. Pieces are stored
+//! turned as they are needed here, so that no product is made for it.
 //! All is inlined: factors are constants then, and vectors needn't pass through memory.
 //! In contracts `folded` is a third's pieces added up to one by Horner's rule in a factor.
 ghost use Rattle.std.specs.Prelude.{ℕ, ◌*◌, ◌<◌, [], ◌∷◌, slice_index};
@@ -12,14 +13,14 @@ ghost use Rattle.coding.specs.Rows.{line};
 ghost use Rattle.rs_lanes.specs.Inner.Lanes.{HasLanes};
 ghost use Rattle.rs_lanes.specs.Inner.Thirds.{exponent_at, folded, third};
 
-use crate::factors::{powers_of, products};
+use crate::factors::products;
 use crate::lanes::{times, xor};
 use std::simd::prelude::*;
 
 /// One place of the five pieces of the third with number `i`, added up to one as by Horner's rule in the 17th power of
 /// alpha^k: result `m` for the exponent k with number `m`. With k = 10 i + 3 m the 17th power of alpha^k is
-/// alpha^(170 i) times alpha^(51 m). So piece j, counted from the last one, whose power is 1, is multiplied by
-/// alpha^(170 i j) first, in 2 i j turns. What is left for each m is a fifth root of one.
+/// alpha^(170 i) times alpha^(51 m). So piece j, counted from the last one, whose power is 1, has to be multiplied by
+/// alpha^(170 i j) first, in 2 i j turns. It is stored so. What is left for each m is a fifth root of one.
 /// The 10 is there since 17 times 10 is twice 85: so turns serve all five exponents at once.
 #[inline(always)]
 pub fn folded_places(thirds: &[[u8x32; 3]; 85], i: usize, place: usize) -> [u8x32; 5]
@@ -29,37 +30,24 @@ pub fn folded_places(thirds: &[[u8x32; 3]; 85], i: usize, place: usize) -> [u8x3
         → HasLanes (line result m) (λ j. slice_index (folded 17 (power (power alpha (exponent_at i m)) 17) (third thirds.now i j) 4) place) }
 {
     fifths(
-        turned(thirds[68 + place][i], 0),
-        turned(thirds[51 + place][i], 2 * i),
-        turned(thirds[34 + place][i], 4 * i),
-        turned(thirds[17 + place][i], 6 * i),
-        turned(thirds[place][i], 8 * i),
+        thirds[68 + place][i],
+        thirds[51 + place][i],
+        thirds[34 + place][i],
+        thirds[17 + place][i],
+        thirds[place][i],
     )
-}
-
-// Each lane times alpha^(85 `turns`). Also ensures that the lanes are bytes.
-#[inline(always)]
-fn turned(lanes: u8x32, turns: usize) -> u8x32
-    ensures turned { HasLanes result (λ j. product (slice_index lanes j) (power alpha (85 * turns))) }
-    ensures bytes { (j : ℕ) → j < 32 → slice_index lanes j < 256 }
-{
-    // alpha^255 is 1, so every third power needs no product. Where all is inlined `turns` is a constant, and no branch
-    // is left.
-    let rest = turns % 3;
-    if rest == 0 {
-        lanes
-    } else {
-        times(&products(powers_of(85)[rest]), lanes)
-    }
 }
 
 // The values of each lane's word `y4 y3 y2 y1 y0` at the fifth roots of one: result `m` has those at alpha^(51 `m`).
 // A product for each of four bytes and each root but 1 would be sixteen. Roots in pairs with their inverses need five.
-// For each `m` there is one value, in the order in which `exponent` of `thirds` has the five exponents.
+// For each `m` there is one value, in the order in which `exponent` of `thirds` has the five exponents. Also ensures
+// that the lanes are bytes.
 #[inline(always)]
 fn fifths(y0: u8x32, y1: u8x32, y2: u8x32, y3: u8x32, y4: u8x32) -> [u8x32; 5]
-    ensures { (m : ℕ) → m < 5 → HasLanes (line result m) (λ j.
+    ensures values { (m : ℕ) → m < 5 → HasLanes (line result m) (λ j.
         value (slice_index y4 j ∷ slice_index y3 j ∷ slice_index y2 j ∷ slice_index y1 j ∷ slice_index y0 j ∷ []) (power alpha (51 * m))) }
+    ensures bytes { (j : ℕ) → j < 32
+        → (slice_index y0 j < 256) × (slice_index y1 j < 256) × (slice_index y2 j < 256) × (slice_index y3 j < 256) × (slice_index y4 j < 256) }
 {
     // The roots are, for m from 0 to 4: 1, 0x0A, 0x44, 0x92 and 0xDD. 0xDD is the inverse of 0x0A, and 0x92 that of
     // 0x44. 0x0A and 0xDD add up to 0xD7, 0x44 and 0x92 to 0xD7 + 1. So a product with 0xD7 makes a sum with one root

@@ -3,21 +3,21 @@
 //!
 //! Values are found by thirds. With 73 zeros before it a row is three pieces of 85 bytes. They are added up to one
 //! piece in three ways: each sum, a third, has the values of the row at those alpha^k whose k has one remainder by 3.
-//! That takes little more than a third of the products of Horner's rule, which has one for each of 182 places and ten
+//! That takes little more than a quarter of the products of Horner's rule, which has one for each of 182 places and ten
 //! values. The parity is the word that has the values of its message followed by zeros: both together are 0 at each
 //! root. Where vectors begin as zeros, these are all overwritten. What is done for each place or row is inlined, so
 //! that vectors needn't pass through memory. In contracts `filled 182` is a word followed by zeros, up to 182 places.
 //! A vector is a list there, whose length its type doesn't say: so `lanes` says it.
-ghost use Rattle.std.specs.Prelude.{◌≡◌, ℕ, ◌+◌, ◌<◌, ◌≤◌, List, ◌++◌, length, take, slice_index, EachIndex, All};
+ghost use Rattle.std.specs.Prelude.{◌≡◌, ℕ, ◌+◌, ◌*◌, ◌<◌, ◌≤◌, List, ◌++◌, length, take, slice_index, EachIndex, All};
 ghost use Rattle.coding.specs.Field.{alpha, power};
 ghost use Rattle.coding.specs.Words.{IsByte, IsEncoded, value};
 ghost use Rattle.coding.specs.Rows.{line, place, column};
 ghost use Rattle.rs_lanes.specs.Inner.Parity.{filled};
-ghost use Rattle.rs_lanes.specs.Inner.Thirds.{after_zeros, third, IsThird};
+ghost use Rattle.rs_lanes.specs.Inner.Thirds.{after_zeros, third, AreStored, IsThird};
 
 use crate::matrices::PI_MATRIX;
 use crate::parity::parity_of;
-use crate::thirds::{thirds_of, values_of};
+use crate::thirds::{turned_thirds, values_of};
 use crate::transposing::transpose;
 use std::simd::prelude::*;
 
@@ -84,16 +84,35 @@ fn put_end(parity: &[u8x32; 10], n: usize, row: &mut [u8; 182])
 }
 
 // Sets all thirds to those of words of 182 bytes, which have zeros from place `count` on: 172 where the parity isn't
-// known yet, else 182. Place `place` of a third is made of that place of the three pieces. They are put where the
-// caller has them, so that 8,160 bytes needn't be copied. Also ensures that the other elements are bytes.
+// known yet, else 182. They are put where the caller has them, so that 8,160 bytes needn't be copied. Also ensures that
+// the other elements are bytes.
 #[inline(always)]
 fn put_thirds(transposed: &[u8x32; 182], count: usize, thirds: &mut [[u8x32; 3]; 85])
     requires { count ≤ 182 }
     ensures bytes { (n : ℕ) → n < 32 → All IsByte (take count (column transposed.now n)) }
     ensures thirds { (i n : ℕ) → i < 3 → n < 32 → IsThird i (filled 182 (take count (column transposed.now n))) (third thirds.new i n) }
 {
-    for place in 0..85 {
-        thirds[place] = thirds_of(
+    // There is a call for each piece, so that its turns are a constant where this is inlined.
+    put_piece(transposed, count, 0, thirds);
+    put_piece(transposed, count, 1, thirds);
+    put_piece(transposed, count, 2, thirds);
+    put_piece(transposed, count, 3, thirds);
+    put_piece(transposed, count, 4, thirds);
+}
+
+// Sets one of the five pieces of all thirds, turned as `fifths` needs it; the pieces before it stay. Place `place` of a
+// third is made of that place of the word's three pieces.
+#[inline(always)]
+fn put_piece(transposed: &[u8x32; 182], count: usize, piece: usize, thirds: &mut [[u8x32; 3]; 85])
+    requires count { count ≤ 182 }
+    requires piece { piece < 5 }
+    ensures { AreStored 73 (λ n. filled 182 (take count (column transposed.now n))) (17 * piece) thirds.old
+        → AreStored 73 (λ n. filled 182 (take count (column transposed.now n))) (17 * piece + 17) thirds.new }
+{
+    for q in 0..17 {
+        let place = 17 * piece + q;
+        thirds[place] = turned_thirds(
+            2 * (4 - piece),
             padded(transposed, count, place),
             padded(transposed, count, 85 + place),
             padded(transposed, count, 170 + place),

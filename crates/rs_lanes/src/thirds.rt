@@ -4,13 +4,13 @@
 //! 15, and its own five pieces are added up for all of them at once (`fifths`). What is left for each exponent is
 //! Horner's rule on 17 bytes.
 //! Horner's rule on the word itself takes a product for each byte and each value: 16 times 208 for columns, 10 times
-//! 182 for rows. Here thirds take 85, fifths 408, and the last steps 17 for each value: about 770 for columns, 660 for
-//! rows.
+//! 182 for rows. Here thirds take 85, fifths 255, and the last steps 17 for each value but that at 1: about 600 for
+//! columns, 500 for rows.
 //! All is inlined: exponents are constants then, and vectors needn't pass through memory. Where a function also ensures
 //! that lanes are bytes, this is for callers' proofs, in which a vector is a list of numbers.
-//! In contracts `third thirds i j` is the third with number i in lane j, as a list, and `exponent_at i m` its exponent
-//! with number m.
-ghost use Rattle.std.specs.Prelude.{◌≡◌, ◌≢◌, ◌↔◌, ℕ, ◌%◌, ◌<◌, ◌≤◌, length, slice_index};
+//! Thirds are stored with their pieces turned as `fifths` needs them. In contracts `third thirds i j` is the third with
+//! number i in lane j, as a list that isn't turned, and `exponent_at i m` its exponent with number m.
+ghost use Rattle.std.specs.Prelude.{◌≡◌, ◌≢◌, ◌↔◌, ℕ, ◌*◌, ◌%◌, ◌<◌, ◌≤◌, length, slice_index};
 ghost use Rattle.coding.specs.Field.{alpha, plus, product, power};
 ghost use Rattle.coding.specs.Words.{value};
 ghost use Rattle.coding.specs.Rows.{line, place};
@@ -22,10 +22,31 @@ use crate::fifths::folded_places;
 use crate::lanes::{times, xor};
 use std::simd::prelude::*;
 
-/// One place of the three thirds, by that place of the three pieces, the first piece first. Third `i` is Horner's rule
-/// in alpha^(85 i). Also ensures that the lanes of these are bytes.
+/// One place of the three thirds, by that place of the three pieces, the first piece first. Third `i` is turned `i`
+/// times as often as is asked. A turn is a product with alpha^85, but none is made for it: where the pieces change places
+/// in a circle, third `i` is turned `i` times. So all three are turned at once. Also ensures that the lanes of the
+/// pieces are bytes. Where this is inlined `turns` is a constant, and no branch is left.
 #[inline(always)]
-pub fn thirds_of(a: u8x32, b: u8x32, c: u8x32) -> [u8x32; 3]
+pub fn turned_thirds(turns: usize, a: u8x32, b: u8x32, c: u8x32) -> [u8x32; 3]
+    ensures thirds { (i : ℕ) → i < 3
+        → HasLanes (line result i) (λ j. product (third_byte i (slice_index a j) (slice_index b j) (slice_index c j)) (power alpha (85 * (i * turns)))) }
+    ensures bytes { (j : ℕ) → j < 32 → (slice_index a j < 256) × (slice_index b j < 256) × (slice_index c j < 256) }
+{
+    // alpha^255 is 1, so three turns change nothing.
+    let rest = turns % 3;
+    if rest == 0 {
+        thirds_of(a, b, c)
+    } else if rest == 1 {
+        thirds_of(b, c, a)
+    } else {
+        thirds_of(c, a, b)
+    }
+}
+
+// One place of the three thirds, not turned. Third `i` is Horner's rule in alpha^(85 i). Also ensures that the lanes of
+// the pieces are bytes.
+#[inline(always)]
+fn thirds_of(a: u8x32, b: u8x32, c: u8x32) -> [u8x32; 3]
     ensures thirds { (i : ℕ) → i < 3 → HasLanes (line result i) (λ j. third_byte i (slice_index a j) (slice_index b j) (slice_index c j)) }
     ensures bytes { (j : ℕ) → j < 32 → (slice_index a j < 256) × (slice_index b j < 256) × (slice_index c j < 256) }
 {
@@ -134,9 +155,23 @@ fn next_value(k: usize, count: usize, value: u8x32, next: u8x32) -> u8x32
     ensures bytes { (j : ℕ) → j < 32 → slice_index next j < 256 }
 {
     if k < count {
-        xor(times(&products(powers_of(1)[k]), value), next)
+        xor(multiplied(value, k), next)
     } else {
         value
+    }
+}
+
+// Each lane times alpha^`k`. Where this is inlined `k` is a constant, and no branch is left.
+#[inline(always)]
+fn multiplied(lanes: u8x32, k: usize) -> u8x32
+    requires { k < 16 }
+    ensures { HasLanes result (λ j. product (power alpha k) (slice_index lanes j)) }
+{
+    // alpha^0 is 1. A look-up in the multiples of 1 would be made as in any other, so it is left out.
+    if k == 0 {
+        lanes
+    } else {
+        times(&products(powers_of(1)[k]), lanes)
     }
 }
 

@@ -8,8 +8,8 @@ use Rattle.rs_lanes.proofs.FifthLemmas.{FifthSums, fifth_sums, each_of_five}
 use Rattle.rs_lanes.proofs.LaneLemmas.{byte_lane}
 use Rattle.rs_lanes.proofs.fifths.fifths.Goals as goal
 
-pub returns : goal.returns
-returns c =
+pub returns-clause-values : goal.returns-clause-values
+returns-clause-values c =
     let y0 : ℕ → ℕ = λ j. get_or c.args.y0 j 0 in
     let y1 : ℕ → ℕ = λ j. get_or c.args.y1 j 0 in
     let y2 : ℕ → ℕ = λ j. get_or c.args.y2 j 0 in

@@ -1,29 +1,35 @@
 -- The proof of `folded_places` in src/fifths.rt.
-use Rattle.std.proofs.Common.{◌≡◌, ℕ, ◌+◌, ◌*◌, [], length, get_or, sym, subst, ◌<◌, ◌∙◌, ap, arith}
-use Rattle.std.proofs.lemmas.List.{length-map}
+use Rattle.std.proofs.Common.{◌≡◌, ℕ, ◌+◌, ◌-◌, ◌*◌, ◌/◌, ◌%◌, [], get_or, sym, subst, ◌<◌, ◌∙◌, ap, arith}
 use Rattle.coding.specs.Field.{alpha, product, power}
+use Rattle.gf_field.proofs.FieldLaws.{product-byte}
 use Rattle.coding.specs.Rows.{place}
 use Rattle.rs_lanes.specs.Inner.Thirds.{third}
-use Rattle.rs_lanes.proofs.ThirdLemmas.{get_or-third}
+use Rattle.rs_lanes.proofs.ThirdLemmas.{each_of_three, get_or-third, length-third, turned_back}
 use Rattle.rs_lanes.proofs.FifthLemmas.{folded-exponent}
 use Rattle.rs_lanes.proofs.fifths.folded_places.Goals as goal
 
 pub returns : goal.returns
 returns c = λ m few. record {
-  size = (c.fifths.ensures m few).size;
+  size = (c.fifths.ensures.values m few).size;
   each = λ j below.
       let thirds = c.args.thirds.now in
       let i = c.args.i in
       let q = c.args.place in
       let word = third thirds i j in
-      let long : length word ≡ 85 = length-map thirds (λ vectors. place vectors i j) ∙ omega arith in
-      let byte : (p : ℕ) → place (get_or thirds p []) i j ≡ get_or word p 0 = λ p. sym (get_or-third thirds i j p) in
-      (c.fifths.ensures m few).each j below
-      ∙ folded-exponent i m word q _ _ _ _ _ long c.requires.place
-      (subst (λ b. b < 256) (byte (68 + q)) (c.turned.ensures.bytes j below))
-      (c.turned.ensures.turned.each j below ∙ ap (λ b. product b (power alpha (85 * 0))) (byte (68 + q)))
-      (c.turned-2.ensures.turned.each j below ∙ ap (λ b. product b (power alpha (85 * (2 * i)))) (byte (51 + q)))
-      (c.turned-3.ensures.turned.each j below ∙ ap (λ b. product b (power alpha (85 * (4 * i)))) (byte (34 + q)))
-      (c.turned-4.ensures.turned.each j below ∙ ap (λ b. product b (power alpha (85 * (6 * i)))) (byte (17 + q)))
-      (c.turned-5.ensures.turned.each j below ∙ ap (λ b. product b (power alpha (85 * (8 * i)))) (byte q));
+      let stored : ℕ → ℕ = λ p. place (get_or thirds p []) i j in
+      let turned : (p turns : ℕ) → p < 85 → stored p < 256
+      → (85 * (i * (4 - p / 17)) + 85 * turns) % 255 ≡ 0
+      → stored p ≡ product (get_or word p 0) (power alpha (85 * turns)) =
+      λ p turns inside byte whole.
+      sym (ap (λ b. product b (power alpha (85 * turns))) (get_or-third thirds i j p inside) ∙ turned_back (stored p) (85 * (i * (4 - p / 17))) (85 * turns) byte whole) in
+      let all : (P : ℕ → Type 0) → P 0 → P 1 → P 2 → P i = λ P p0 p1 p2. each_of_three P p0 p1 p2 i c.requires.third in
+      let bytes = c.fifths.ensures.bytes j below in
+      (c.fifths.ensures.values m few).each j below
+      ∙ folded-exponent i m word q _ _ _ _ _ (length-third thirds i j) c.requires.place
+      (subst (λ b. b < 256) (sym (get_or-third thirds i j (68 + q) (omega arith))) (product-byte _ _))
+      (turned (68 + q) 0 (omega arith) bytes.0 (all (λ i. (85 * (i * (4 - (68 + q) / 17)) + 85 * 0) % 255 ≡ 0) (omega arith) (omega arith) (omega arith)))
+      (turned (51 + q) (2 * i) (omega arith) bytes.1 (all (λ i. (85 * (i * (4 - (51 + q) / 17)) + 85 * (2 * i)) % 255 ≡ 0) (omega arith) (omega arith) (omega arith)))
+      (turned (34 + q) (4 * i) (omega arith) bytes.2 (all (λ i. (85 * (i * (4 - (34 + q) / 17)) + 85 * (4 * i)) % 255 ≡ 0) (omega arith) (omega arith) (omega arith)))
+      (turned (17 + q) (6 * i) (omega arith) bytes.3 (all (λ i. (85 * (i * (4 - (17 + q) / 17)) + 85 * (6 * i)) % 255 ≡ 0) (omega arith) (omega arith) (omega arith)))
+      (turned q (8 * i) (omega arith) bytes.4 (all (λ i. (85 * (i * (4 - q / 17)) + 85 * (8 * i)) % 255 ≡ 0) (omega arith) (omega arith) (omega arith)));
 }

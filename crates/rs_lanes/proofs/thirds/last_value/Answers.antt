@@ -1,13 +1,11 @@
 -- The proof of `last_value` in src/thirds.rt.
 use Rattle.std.proofs.Common.{refl, sym, ap, ◌∙◌, get_or, arith}
-use Rattle.std.proofs.lemmas.List.{length-map}
 use Rattle.std.proofs.lemmas.Simd.{get_or-replicate}
 use Rattle.coding.specs.Field.{alpha, power}
 use Rattle.rs_code.proofs.Values.{value-nil}
-use Rattle.coding.specs.Rows.{place}
 use Rattle.rs_lanes.specs.Inner.Thirds.{folded, third}
 use Rattle.rs_lanes.proofs.FifthLemmas.{power-last}
-use Rattle.rs_lanes.proofs.ThirdLemmas.{value-fives, value-fives_more}
+use Rattle.rs_lanes.proofs.ThirdLemmas.{length-third, value-fives, value-fives_more}
 use Rattle.rs_lanes.proofs.thirds.last_value.Goals as goal
 
 pub loop-place-init : goal.loop-place-init
@@ -26,7 +24,7 @@ loop-place-preserved c =
       each = λ j below.
           let word = third thirds 0 j in
           (step.step (omega arith)).each j below
-          ∙ value-fives_more (power alpha 15) word q _ _ (length-map thirds (λ vectors. place vectors 0 j) ∙ omega arith) (omega arith) (step.bytes j below)
+          ∙ value-fives_more (power alpha 15) word q _ _ (length-third thirds 0 j) (omega arith) (step.bytes j below)
           (c.loop-place.invariant.each j below) ((c.folded_places.ensures 0 (omega arith)).each j below ∙ ap (λ factor. get_or (folded 17 factor word 4) q 0) power-last);
     }
 
@@ -37,5 +35,5 @@ returns c =
       size = c.loop-place.invariant.size;
       each = λ j below.
           c.loop-place.invariant.each j below
-          ∙ value-fives (power alpha 15) (third thirds 0 j) c.loop-place.place (length-map thirds (λ vectors. place vectors 0 j) ∙ omega arith) (omega arith);
+          ∙ value-fives (power alpha 15) (third thirds 0 j) c.loop-place.place (length-third thirds 0 j) (omega arith);
     }

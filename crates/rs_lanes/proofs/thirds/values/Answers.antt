@@ -1,12 +1,10 @@
 -- The proof of `values` in src/thirds.rt.
 use Rattle.std.proofs.Common.{sym, ◌∙◌, arith}
-use Rattle.std.proofs.lemmas.List.{length-map}
 use Rattle.coding.specs.Field.{alpha, power}
 use Rattle.rs_code.proofs.Values.{value-nil}
-use Rattle.coding.specs.Rows.{place}
 use Rattle.rs_lanes.specs.Inner.Thirds.{exponent_at, third}
 use Rattle.rs_lanes.proofs.LaneLemmas.{HasLanes-zeros}
-use Rattle.rs_lanes.proofs.ThirdLemmas.{value-fives, value-fives_more}
+use Rattle.rs_lanes.proofs.ThirdLemmas.{length-third, value-fives, value-fives_more}
 use Rattle.rs_lanes.proofs.thirds.values.Goals as goal
 
 pub loop-place-init : goal.loop-place-init
@@ -24,7 +22,7 @@ loop-place-preserved c =
       size = (read.steps m few wanted).size;
       each = λ j below.
           (read.steps m few wanted).each j below
-          ∙ value-fives_more (power alpha (exponent_at i m)) (third thirds i j) c.loop-place.place _ _ (length-map thirds (λ vectors. place vectors i j) ∙ omega arith)
+          ∙ value-fives_more (power alpha (exponent_at i m)) (third thirds i j) c.loop-place.place _ _ (length-third thirds i j)
           (omega arith) (read.bytes m j few below) ((before m few wanted).each j below) ((c.folded_places.ensures m few).each j below);
     }
 
@@ -37,5 +35,5 @@ returns c = λ m few wanted.
       size = read.size;
       each = λ j below.
           read.each j below
-          ∙ value-fives (power alpha (exponent_at i m)) (third thirds i j) c.loop-place.place (length-map thirds (λ vectors. place vectors i j) ∙ omega arith) (omega arith);
+          ∙ value-fives (power alpha (exponent_at i m)) (third thirds i j) c.loop-place.place (length-third thirds i j) (omega arith);
     }
