@@ -23,9 +23,9 @@ use crate::lanes::{times, xor};
 use std::simd::prelude::*;
 
 /// One place of the three thirds, by that place of the three pieces, the first piece first. Third `i` is turned `i`
-/// times as often as is asked. A turn is a product with alpha^85, but none is made for it: where the pieces change places
-/// in a circle, third `i` is turned `i` times. So all three are turned at once. Also ensures that the lanes of the
-/// pieces are bytes. Where this is inlined `turns` is a constant, and no branch is left.
+/// times as often as is asked. A turn is a product with alpha^85, but none is made for it: where the pieces change
+/// places in a circle, third `i` is turned `i` times. So all three are turned at once. Also ensures that the lanes of
+/// the pieces are bytes. Where this is inlined `turns` is a constant, and no branch is left.
 #[inline(always)]
 pub fn turned_thirds(turns: usize, a: u8x32, b: u8x32, c: u8x32) -> [u8x32; 3]
     ensures thirds { (i : ℕ) → i < 3
