@@ -111,7 +111,19 @@ fn has_no_mark(row: &[u8; 23]) -> bool
     ensures { IsTrue result ↔ (marks_of row.now ≡ replicate 182 false) }
 {
     // The last byte has six places, in its upper bits: below 4 only spare bits are set.
-    row[..22] == [0; 22] && row[22] < 4
+    are_zeros(&row[..22]) && row[22] < 4
+}
+
+// Whether 22 bytes are zeros. Each row of a block is asked for it, so all are tested at once: as the first and the last
+// sixteen, ten of them twice. It is inlined, since a call would take longer.
+#[inline(always)]
+fn are_zeros(bytes: &[u8]) -> bool
+    requires { length bytes.now ≡ 22 }
+    ensures { IsTrue result ↔ (bytes.now ≡ replicate 22 0) }
+{
+    let first = u8x16::from_slice(bytes);
+    let last = u8x16::from_slice(&bytes[6..]);
+    (first | last).reduce_or() == 0
 }
 
 // How many places have a mark; the two spare bits don't count.
