@@ -188,20 +188,5 @@ fn sum_of(window: &HeapCircularBuffer<u8>) -> u32
     requires { length window.now.items ≤ 8 }
     ensures { result ≡ sum window.now.items }
 {
-    // The window goes round its memory, so that its numbers may be in two parts.
-    let (older, newer) = window.as_slices();
-    sum_of_part(older) + sum_of_part(newer)
-}
-
-// At most eight numbers of eight bits, so that the sum has a bound: 8 times 255.
-fn sum_of_part(numbers: &[u8]) -> u32
-    requires { length numbers.now ≤ 8 }
-    ensures sum { result ≡ sum numbers.now }
-    ensures most { result ≤ 2040 }
-{
-    let mut sum = 0;
-    for number in numbers {
-        sum += u32::from(*number);
-    }
-    sum
+    window.iter().map(|number| u32::from(*number)).sum()
 }
