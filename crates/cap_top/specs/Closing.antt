@@ -1,5 +1,5 @@
 -- The lines of reports that several commands have, and the status that goes with the last.
-use Rattle.std.specs.Prelude.{◌≡◌, ◌⊎◌, ℕ, List, ◌++◌, codes, decimal}
+use Rattle.std.specs.Prelude.{◌≡◌, ◌⊎◌, ℕ, List, codes}
 use Rattle.std.specs.Io.KnownBytes.{Appends}
 use Rattle.cap_top.specs.declared.status.Status.{Status}
 use Rattle.cap_top.specs.declared.status.Status.TheVariants as status
@@ -23,7 +23,3 @@ words_line words.NoMemory = codes "no memory\n"
 abbrev pub words_status : WordsFault → Status
 words_status words.Usage = status.Usage
 words_status words.NoMemory = status.NoMemory
-
--- the line of an input, a line of which breaks a rule
-abbrev pub rule_line : List ℕ → ℕ → List ℕ → List ℕ
-rule_line prefix number cause = prefix ++ decimal number ++ codes ": " ++ cause ++ codes "\n"

@@ -3,22 +3,12 @@ use Rattle.std.specs.Prelude.{ℕ, List, ◌++◌, codes, decimal}
 use Rattle.cap_draw.specs.Drawn.{HasDrawn}
 use Rattle.cap_draw.specs.declared.drawing.DrawEnd.{DrawEnd}
 use Rattle.cap_draw.specs.declared.drawing.DrawEnd.TheVariants.{Done, NoMemory, ReadFault, Rule, Short, WriteFault}
-use Rattle.cap_survey.specs.declared.fault.SurveyCause.{SurveyCause}
-use Rattle.cap_survey.specs.declared.fault.SurveyCause.TheVariants as causes
-use Rattle.cap_top.specs.Closing.{EndsWith, rule_line}
+use Rattle.cap_top.specs.Closing.{EndsWith}
+use Rattle.cap_top.specs.Causes.{rule_line}
+use Rattle.cap_top.specs.declared.causes.LineCause.TheVariants as causes
 use Rattle.cap_top.specs.declared.status.Status.{Status}
 use Rattle.cap_top.specs.declared.status.Status.TheVariants as status
 use Rattle.dvd_ports.specs.Seen.{Seen}
-
--- the rule that a line of the survey breaks
-abbrev pub rule_text : SurveyCause → List ℕ
-rule_text causes.Form = codes "form"
-rule_text causes.Order = codes "order"
-rule_text causes.Range = codes "range"
-rule_text causes.Sum8 = codes "sum8"
-rule_text causes.TooMany = codes "too many"
-rule_text causes.Totals = codes "totals"
-rule_text causes.After = codes "after"
 
 -- the closing line
 abbrev pub draw_line : DrawEnd → List ℕ
@@ -26,7 +16,7 @@ draw_line Done = codes "done\n"
 draw_line (Short line bytes) = codes "short: line " ++ decimal line ++ codes ", " ++ decimal bytes ++ codes " bytes\n"
 draw_line ReadFault = codes "read fault\n"
 draw_line WriteFault = codes "write fault\n"
-draw_line (Rule fault) = rule_line (codes "survey: line ") fault.line (rule_text fault.cause)
+draw_line (Rule fault) = rule_line (causes.Survey fault.cause) fault.line
 draw_line NoMemory = codes "no memory\n"
 
 -- the status

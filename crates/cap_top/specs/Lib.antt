@@ -1,4 +1,5 @@
 -- What the contracts are about: a run of each command, and how it ends.
+pub mod Causes
 pub mod Closing
 pub mod Draw
 pub mod Interleave

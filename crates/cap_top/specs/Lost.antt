@@ -11,8 +11,6 @@ use Rattle.cap_top.specs.Closing.{EndsWith}
 use Rattle.cap_top.specs.Lost.Lines.{refusal_line}
 use Rattle.cap_top.specs.declared.status.Status.{Status}
 use Rattle.cap_top.specs.declared.status.Status.TheVariants as status
-use Rattle.cap_words.specs.Lost.{IsLayoutOf, broken_rule}
-use Rattle.cap_words.specs.declared.settings.LostSettings.{LostSettings}
 use Rattle.dvd_layout.specs.Place.{total_sectors}
 use Rattle.dvd_layout.specs.declared.fault.LayoutFault.{LayoutFault}
 use Rattle.dvd_layout.specs.declared.layout.Layout.{Layout}
@@ -21,6 +19,8 @@ use Rattle.dvd_loop.specs.Streams.{Streams}
 use Rattle.dvd_ports.specs.Whole.{IsWritten}
 use Rattle.dvd_ports.specs.declared.port.WriteFault.{WriteFault}
 use Rattle.dvd_report.specs.Setting.{setting_line}
+use Rattle.dvd_words.specs.Settings.{IsLayoutOf, broken_rule}
+use Rattle.dvd_words.specs.declared.settings.Settings.{Settings}
 
 -- the status of a run whose report isn't read
 abbrev pub refusal_status : ReportFault → Status
@@ -58,7 +58,7 @@ abbrev pub HasRunByLayout : Layout → Zones → Type 0 → Streams → Streams 
 HasRunByLayout layout zones Untouched old new result = HasMapped layout zones old new result ⊎ HasRefused layout zones Untouched old new result
 
 -- The layout breaks a rule: nothing is read, and nothing written.
-pub record HasBroken (settings : LostSettings) (Unread Untouched : Type 0) (old new : Streams) (result : Status) : Type 0 where
+pub record HasBroken (settings : Settings) (Unread Untouched : Type 0) (old new : Streams) (result : Status) : Type 0 where
   pub fault : LayoutFault
   pub breaks : broken_rule settings ≡ Some fault
   pub unread : Unread
@@ -66,11 +66,11 @@ pub record HasBroken (settings : LostSettings) (Unread Untouched : Type 0) (old 
   pub reported : EndsWith status.BadInput (setting_line fault) old.report new.report result
 
 -- it breaks none
-pub record HasRun (settings : LostSettings) (Untouched : Type 0) (old new : Streams) (result : Status) : Type 0 where
+pub record HasRun (settings : Settings) (Untouched : Type 0) (old new : Streams) (result : Status) : Type 0 where
   pub layout : Layout
   pub is_layout : IsLayoutOf settings layout
   pub ended : HasRunByLayout layout settings.zones Untouched old new result
 
 -- THE HEADLINE, of the settings, of the streams before and after, and of the status.
-abbrev pub Headline : LostSettings → Type 0 → Type 0 → Streams → Streams → Status → Type 0
+abbrev pub Headline : Settings → Type 0 → Type 0 → Streams → Streams → Status → Type 0
 Headline settings Unread Untouched old new result = HasRun settings Untouched old new result ⊎ HasBroken settings Unread Untouched old new result

@@ -1,9 +1,11 @@
 //! The lines of reports that several commands have, and the status that goes with the last. A run whose closing line
-//! fails has the status ReportFault, whatever else it did: silence isn't success. The bounds of 20 bytes are within
+//! fails has the status ReportFault, whatever else it did: silence isn't success. The bound of 20 bytes is within
 //! what a `Line` has room for, 256, and more than any text here has.
 ghost use Rattle.std.specs.Prelude.{◌≡◌, ◌≤◌, codes, length};
-ghost use Rattle.cap_top.specs.Closing.{EndsWith, rule_line, words_line, words_status};
+ghost use Rattle.cap_top.specs.Closing.{EndsWith, words_line, words_status};
+ghost use Rattle.cap_top.specs.Causes.{rule_line};
 
+use crate::causes::{LineCause, cause_text, input_name};
 use crate::status::Status;
 use cap_words::WordsFault;
 use dvd_ports::{Sink, WriteFault, write_whole};
@@ -48,18 +50,16 @@ pub fn fixed_end(status: Status, text: &[u8]) -> RunEnd
     RunEnd { status, line }
 }
 
-/// The end of a run with an input, a line of which breaks a rule: `prefix` names the input, as `map: line `. No line
-/// feed is in the texts that it gets.
-pub fn rule_end(prefix: &[u8], number: u64, cause: &[u8]) -> RunEnd
-    requires prefix { length prefix.now ≤ 20 }
-    requires cause { length cause.now ≤ 20 }
+/// The end of a run with an input, a line of which breaks a rule. Lines are counted from 1.
+pub fn rule_end(cause: LineCause, number: u64) -> RunEnd
     ensures status { result.status ≡ Status.BadInput }
-    ensures line { result.line ≡ rule_line prefix.now number cause.now }
+    ensures line { result.line ≡ rule_line cause number }
 {
     let mut line = Line::new();
-    line.put_named(prefix, number);
+    line.put(input_name(cause));
+    line.put_named(b": line ", number);
     line.put(b": ");
-    line.put(cause);
+    line.put(cause_text(cause));
     line.put(b"\n");
     RunEnd {
         status: Status::BadInput,

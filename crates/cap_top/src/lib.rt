@@ -2,6 +2,7 @@
 //! over memory and cap_main over files.
 #![tactic(auto)]
 
+mod causes; // why lines of the inputs aren't accepted
 mod closing; // the lines of reports that several commands have
 mod draw; // a run of `draw`
 mod interleave; // a run of `interleave`

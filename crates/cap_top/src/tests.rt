@@ -136,10 +136,7 @@ fn runs(alloc: Global, case: &Case) -> Result<(), Fail> {
 
 #[test]
 fn frames_are_marked_and_faults_are_named(rt: HostRuntime) -> Result<(), Fail> {
-    for case in &CASES {
-        runs(rt.alloc(), case)?;
-    }
-    Ok(())
+    CASES.iter().try_for_each(|case| runs(rt.alloc(), case))
 }
 
 // A run whose map gives no spans: nothing is read of the capture, and nothing is written. A read of a hundred bytes at
@@ -259,8 +256,7 @@ fn two_names<'a>() -> ArrayVec<&'a str, 16>
 
 #[test]
 fn blocks_take_turns_and_files_are_named(rt: HostRuntime) -> Result<(), Fail> {
-    for case in &INTERLEAVE_CASES {
-        takes_units(rt.alloc(), case)?;
-    }
-    Ok(())
+    INTERLEAVE_CASES
+        .iter()
+        .try_for_each(|case| takes_units(rt.alloc(), case))
 }

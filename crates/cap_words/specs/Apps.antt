@@ -3,7 +3,7 @@ use Rattle.std.specs.Prelude.{true, false, List, [], ◌∷◌, ◌++◌, map, c
 use Rattle.clap.specs.Words.{App, Rule, Text, new_rule}
 use Rattle.clap.specs.Simple.{new_shape}
 use Rattle.clap.specs.declared.builder.action.ArgAction.TheVariants.{Append, SetTrue}
-use Rattle.dvd_words.specs.Table.{option_rule}
+use Rattle.dvd_words.specs.Table.{layout, may, must, option_rule}
 use Rattle.cap_words.specs.declared.settings.Command.{Command}
 use Rattle.cap_words.specs.declared.settings.Command.TheVariants.{Mark, Interleave, Lost, Draw}
 
@@ -26,13 +26,9 @@ bare_app name = app_with name []
 abbrev pub with_options : App → List Text → App
 with_options app names = record app { top = record app.top { rules = app.top.rules ++ map (option_rule false) names } }
 
--- the lengths of a disk, except that of its first layer, its shape, and which of its zones were captured
-abbrev pub layout_options : List Text
-layout_options = codes "sectors1" ∷ codes "shape" ∷ codes "zones" ∷ codes "initial" ∷ codes "tail" ∷ []
-
 -- the options that each command requires, and those that may be given
 abbrev pub app_for : Command → App
 app_for Mark = app_with (codes "mark") (option_rule true (codes "map") ∷ option_rule false (codes "good") ∷ [])
 app_for Interleave = app_with (codes "interleave") (option_rule true (codes "form") ∷ flag_rule (codes "fill") ∷ file_rule ∷ [])
-app_for Lost = app_with (codes "lost") (option_rule true (codes "sectors") ∷ map (option_rule false) layout_options)
+app_for Lost = app_with (codes "lost") (must ("sectors" ∷ []) ++ may layout)
 app_for Draw = app_with (codes "draw") (option_rule false (codes "width") ∷ [])

@@ -3,6 +3,7 @@ use Rattle.std.specs.Prelude.{◌≡◌, ◌≤◌, if◌then◌else◌, List, [
 use Rattle.std.specs.Str.{bytes_eq}
 use Rattle.clap.specs.Words.{Row, Text}
 use Rattle.dvd_words.specs.Reading.{◌>>=◌, rows_by}
+use Rattle.dvd_words.specs.declared.settings.Settings.{Settings as RunSettings}
 use Rattle.cap_words.specs.Apps.{app_for}
 use Rattle.cap_words.specs.Draw.{draw_of}
 use Rattle.cap_words.specs.Interleave.{InterleaveAsked, IsValid, interleave_asked, interleave_of}
@@ -11,7 +12,6 @@ use Rattle.cap_words.specs.Mark.{MarkAsked, mark_asked, mark_command_of}
 use Rattle.cap_words.specs.declared.settings.Command.{Command}
 use Rattle.cap_words.specs.declared.settings.Command.TheVariants.{Mark, Interleave, Lost, Draw}
 use Rattle.cap_words.specs.declared.settings.DrawSettings.{DrawSettings}
-use Rattle.cap_words.specs.declared.settings.LostSettings.{LostSettings}
 use Rattle.cap_words.specs.declared.settings.Settings.{Settings}
 use Rattle.cap_words.specs.declared.settings.Settings.TheVariants as settings
 
@@ -19,7 +19,7 @@ use Rattle.cap_words.specs.declared.settings.Settings.TheVariants as settings
 pub data Asked : Type 0 where
   AsksMark : MarkAsked → Asked
   AsksInterleave : InterleaveAsked → Asked
-  AsksLost : LostSettings → Asked
+  AsksLost : RunSettings → Asked
   AsksDraw : DrawSettings → Asked
 
 abbrev pub asked_by : Settings → Asked

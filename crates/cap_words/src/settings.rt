@@ -3,7 +3,6 @@
 
 use arrayvec::ArrayVec;
 use dvd_capture::Form;
-use dvd_layout::{Layout, LayoutFault, Shape, Zones};
 
 /// The commands of the program. The first argument says which; by it a parser is chosen, before any option is read.
 #[derive(Clone, Copy, Debug, PartialEq, Eq)]
@@ -52,43 +51,9 @@ pub struct InterleaveSettings<'a> {
     pub files: ArrayVec<&'a str, 16>,
 }
 
-/// The options of `lost`, which are those of `dvdecc recover` for the layout.
-#[derive(Clone, Copy, Debug, PartialEq, Eq, Drop)]
-pub struct LostSettings {
-    /// How many image sectors there are, on layer 0 where there are two.
-    pub sectors: u32,
-    /// How many image sectors layer 1 has.
-    pub sectors1: u32,
-    /// How many layers the disk has, and the track path where there are two.
-    pub shape: Shape,
-    /// Which zones of the disk were captured.
-    pub zones: Zones,
-    /// How many blocks the Initial Zone has.
-    pub initial: u32,
-    /// How many blocks the zones after the data have.
-    pub tail: u32,
-}
-
-impl LostSettings {
-    ghost use Rattle.std.specs.Prelude.{◌≡◌, None, Some, IsOk, IfErr, IfOk};
-    ghost use Rattle.cap_words.specs.Lost.{IsLayoutOf, broken_rule};
-
-    /// The layout of these lengths, or the first rule that they break. It isn't made with the settings: a rule that is
-    /// broken has a line of its own, and isn't a usage error.
-    pub fn layout(&self) -> Result<Layout, LayoutFault>
-        ensures lengths { IfOk result (IsLayoutOf self.now) }
-        ensures valid { IsOk result → broken_rule self.now ≡ None }
-        ensures refused { IfErr result (λ fault. broken_rule self.now ≡ Some fault) }
-    {
-        Layout::new(
-            self.shape,
-            self.sectors,
-            self.sectors1,
-            self.initial,
-            self.tail,
-        )
-    }
-}
+/// The options of `lost`, as `dvdecc recover` has them: those of the layout are given, and the others have their
+/// defaults. So the layout is that of the run whose report is read.
+pub type LostSettings = dvd_words::Settings;
 
 /// The options of `draw`.
 #[derive(Clone, Copy, Debug, PartialEq, Eq, Drop)]

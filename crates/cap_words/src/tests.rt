@@ -1,5 +1,5 @@
 //! Worked arguments, each list with what it asks for.
-use crate::{DrawSettings, LostSettings, Settings, WordsFault, read};
+use crate::{InterleaveSettings, LostSettings, Settings, WordsFault, read};
 use dvd_capture::Form;
 use dvd_layout::{Shape, Zones};
 use std::alloc::{AllocError, Global};
@@ -7,11 +7,9 @@ use std::test::Fail;
 
 // A text as arguments, one for each of its words.
 fn words(alloc: Global, text: &str) -> Result<Vec<String>, AllocError> {
-    let mut words = Vec::new(alloc);
-    for word in text.split_whitespace() {
-        words.push(String::from_str(alloc, word)?)?;
-    }
-    Ok(words)
+    text.split_whitespace()
+        .map(|word| String::from_str(alloc, word))
+        .try_collect(alloc)
 }
 
 // Arguments that are invalid.
@@ -83,60 +81,53 @@ fn words_that_ask_for_nothing(rt: HostRuntime) -> Result<(), Fail> {
     Ok(())
 }
 
-// Arguments, and the map and the statuses that they ask for.
-static MARKS: [(&str, &str, &str); 5] = [
-    ("mark --map a", "a", "+"),
-    ("mark --map=rescue.map", "rescue.map", "+"),
-    ("mark --good +* --map /tmp/m", "/tmp/m", "+*"),
-    ("mark --map a --good ?*/-+", "a", "?*/-+"),
-    ("mark --good=-+ --map a", "a", "-+"),
-];
-
-fn asks_for_marks(alloc: Global, case: &(&str, &str, &str)) -> Result<(), Fail> {
-    let words = words(alloc, case.0)?;
-    match read(alloc, &words) {
-        Ok(Settings::Mark(asked)) if asked.map == case.1 && asked.good == case.2 => Ok(()),
-        _ => Err(case.0)?,
-    }
+// What arguments ask for.
+enum Wanted {
+    // The map of `mark` and the statuses that are trusted.
+    Mark(&'static str, &'static str),
+    // The files of `interleave` in the plain form, in the marked form, and in this with missing blocks filled.
+    Plain(&'static str),
+    Marked(&'static str),
+    Filled(&'static str),
+    // The options of `lost`, which make a valid layout.
+    Lost(Lengths),
+    // The width of `draw`.
+    Draw(u32),
 }
 
-#[test]
-fn words_that_ask_for_marks(rt: HostRuntime) -> Result<(), Fail> {
-    for case in &MARKS {
-        asks_for_marks(rt.alloc(), case)?;
-    }
-    Ok(())
-}
+// Sectors of layer 0 and of layer 1, shape, zones, initial and tail.
+type Lengths = (u32, u32, Shape, Zones, u32, u32);
 
-// Arguments, and the form, the filling and the files that they ask for.
-static BLOCKS: [(&str, Form, bool, &str); 7] = [
-    ("interleave --form plain a b", Form::Plain, false, "a b"),
-    ("interleave b a --form=plain", Form::Plain, false, "b a"),
-    ("interleave a --form plain a a", Form::Plain, false, "a a a"),
+static ASKED: [(&str, Wanted); 17] = [
+    ("mark --map a", Wanted::Mark("a", "+")),
+    ("mark --map=rescue.map", Wanted::Mark("rescue.map", "+")),
+    ("mark --good +* --map /tmp/m", Wanted::Mark("/tmp/m", "+*")),
+    ("mark --map a --good ?*/-+", Wanted::Mark("a", "?*/-+")),
+    ("mark --good=-+ --map a", Wanted::Mark("a", "-+")),
+    ("interleave --form plain a b", Wanted::Plain("a b")),
+    ("interleave b a --form=plain", Wanted::Plain("b a")),
+    ("interleave a --form plain a a", Wanted::Plain("a a a")),
     (
         "interleave --form marked -- --fill -",
-        Form::Marked,
-        false,
-        "--fill -",
+        Wanted::Marked("--fill -"),
     ),
-    (
-        "interleave --fill --form marked - b",
-        Form::Marked,
-        true,
-        "- b",
-    ),
-    (
-        "interleave a b --fill --form marked",
-        Form::Marked,
-        true,
-        "a b",
-    ),
+    ("interleave --fill --form marked - b", Wanted::Filled("- b")),
+    ("interleave a b --fill --form marked", Wanted::Filled("a b")),
     (
         "interleave --form marked 1 2 3 4 5 6 7 8 9 a b c d e f interleave",
-        Form::Marked,
-        false,
-        "1 2 3 4 5 6 7 8 9 a b c d e f interleave",
+        Wanted::Marked("1 2 3 4 5 6 7 8 9 a b c d e f interleave"),
     ),
+    (
+        "lost --sectors 32",
+        Wanted::Lost((32, 0, Shape::Single, Zones::DataOnly, 0, 16)),
+    ),
+    (
+        "lost --tail 4 --initial 3 --zones all --shape opposite --sectors1=16 --sectors 32",
+        Wanted::Lost((32, 16, Shape::Opposite, Zones::All, 3, 4)),
+    ),
+    ("draw", Wanted::Draw(1000)),
+    ("draw --width 100", Wanted::Draw(100)),
+    ("draw --width=4000", Wanted::Draw(4000)),
 ];
 
 // Whether these are the files, in their order.
@@ -151,79 +142,51 @@ fn are_files(files: &[&str], names: &str) -> bool {
     left.is_empty()
 }
 
-fn asks_for_blocks(alloc: Global, case: &(&str, Form, bool, &str)) -> Result<(), Fail> {
-    let words = words(alloc, case.0)?;
-    match read(alloc, &words) {
-        Ok(Settings::Interleave(asked)) => {
-            let same = asked.form == case.1 && asked.fill == case.2;
-            if same && are_files(asked.files.as_slice(), case.3) {
-                Ok(())
-            } else {
-                Err(case.0)?
-            }
+fn is_interleaved(asked: &InterleaveSettings<'_>, form: Form, fill: bool, files: &str) -> bool {
+    asked.form == form && asked.fill == fill && are_files(&asked.files, files)
+}
+
+fn lengths_of(asked: &LostSettings) -> Lengths {
+    (
+        asked.sectors,
+        asked.sectors1,
+        asked.shape,
+        asked.zones,
+        asked.initial,
+        asked.tail,
+    )
+}
+
+fn is_wanted(asked: &Settings<'_>, wanted: &Wanted) -> bool {
+    match (asked, wanted) {
+        (Settings::Mark(asked), Wanted::Mark(map, good)) => {
+            asked.map == *map && asked.good == *good
         }
-        _ => Err(case.0)?,
+        (Settings::Interleave(asked), Wanted::Plain(files)) => {
+            is_interleaved(asked, Form::Plain, false, files)
+        }
+        (Settings::Interleave(asked), Wanted::Marked(files)) => {
+            is_interleaved(asked, Form::Marked, false, files)
+        }
+        (Settings::Interleave(asked), Wanted::Filled(files)) => {
+            is_interleaved(asked, Form::Marked, true, files)
+        }
+        (Settings::Lost(asked), Wanted::Lost(lengths)) => {
+            asked.layout().is_ok() && lengths_of(asked) == *lengths
+        }
+        (Settings::Draw(asked), Wanted::Draw(width)) => asked.width == *width,
+        _ => false,
     }
 }
 
 #[test]
-fn words_that_ask_for_blocks_in_turn(rt: HostRuntime) -> Result<(), Fail> {
-    for case in &BLOCKS {
-        asks_for_blocks(rt.alloc(), case)?;
+fn words_that_ask_for_a_run(rt: HostRuntime) -> Result<(), Fail> {
+    for (text, wanted) in &ASKED {
+        let words = words(rt.alloc(), text)?;
+        match read(rt.alloc(), &words) {
+            Ok(asked) if is_wanted(&asked, wanted) => {}
+            _ => Err(*text)?,
+        }
     }
-    Ok(())
-}
-
-static ONE_LAYER: LostSettings = LostSettings {
-    sectors: 32,
-    sectors1: 0,
-    shape: Shape::Single,
-    zones: Zones::DataOnly,
-    initial: 0,
-    tail: 16,
-};
-
-static TWO_LAYERS: LostSettings = LostSettings {
-    sectors: 32,
-    sectors1: 16,
-    shape: Shape::Opposite,
-    zones: Zones::All,
-    initial: 3,
-    tail: 4,
-};
-
-// What `lost` is asked for, or `None` where the arguments ask for something else or for nothing.
-fn asks(alloc: Global, text: &str) -> Result<Option<LostSettings>, Fail> {
-    let words = words(alloc, text)?;
-    match read(alloc, &words) {
-        Ok(Settings::Lost(asked)) => Ok(Some(asked)),
-        _ => Ok(None),
-    }
-}
-
-#[test]
-fn words_that_ask_for_lost_bytes(rt: HostRuntime) -> Result<(), Fail> {
-    let alloc = rt.alloc();
-    assert!(rt; asks(alloc, "lost --sectors 32")? == Some(ONE_LAYER));
-    let text = "lost --tail 4 --initial 3 --zones all --shape opposite --sectors1=16 --sectors 32";
-    assert!(rt; asks(alloc, text)? == Some(TWO_LAYERS));
-    assert!(rt; ONE_LAYER.layout().is_ok() && TWO_LAYERS.layout().is_ok());
-    Ok(())
-}
-
-fn width(alloc: Global, text: &str) -> Result<Option<u32>, Fail> {
-    let words = words(alloc, text)?;
-    match read(alloc, &words) {
-        Ok(Settings::Draw(DrawSettings { width })) => Ok(Some(width)),
-        _ => Ok(None),
-    }
-}
-
-#[test]
-fn words_that_ask_for_a_picture(rt: HostRuntime) -> Result<(), Fail> {
-    let alloc = rt.alloc();
-    assert!(rt; width(alloc, "draw")? == Some(1000));
-    assert!(rt; width(alloc, "draw --width 100")? == Some(100));
-    assert!(rt; width(alloc, "draw --width=4000")? == Some(4000));
     Ok(())
 }

@@ -22,4 +22,4 @@ pub use parser::{parse_by, with_option};
 pub use settings::Settings;
 pub use table::{Command, Unit, unit_of};
 pub use values::{read_form, read_number, read_shape, read_within, read_zones};
-pub use words::{given, read};
+pub use words::{given, read, read_options};

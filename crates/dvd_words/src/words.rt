@@ -33,17 +33,18 @@ pub fn read(alloc: Global, words: &[String]) -> Result<Settings, WordsFault>
     };
     // The word of the command is handed on too: clap passes over it, as over a program's name.
     let matches = parse(alloc, command, words)?;
-    settings(command, &matches).ok_or(WordsFault::Usage)
+    read_options(command, &matches).ok_or(WordsFault::Usage)
 }
 
-// Each option by its form. All options are read whatever the command is: one that it doesn't have wasn't accepted by
-// clap, and so has its default. So a default may be out of the range of the option: 0 blocks or captures are those of a
-// command that has none. The default of 16 blocks of tail, and the most blocks and captures, are choices. Of frames any
-// number but 0 may come, up to the last of 32 bits. `IsValid` has the ranges of workers, blocks and captures, and those
-// that are of one command, as that its sectors have numbers or addresses; the runs of the commands require it, so a
-// limit that changes here changes there too.
+/// Each option by its form. All options are read whatever the command is: one that it doesn't have wasn't accepted by
+/// clap, and so has its default. So a default may be out of the range of the option: 0 blocks or captures are those of
+/// a command that has none. The default of 16 blocks of tail, and the most blocks and captures, are choices. Of frames
+/// any number but 0 may come, up to the last of 32 bits. `IsValid` has the ranges of workers, blocks and
+/// captures, and those that are of one command, as that its sectors have numbers or addresses; the runs of the commands
+/// require it, so a limit that changes here changes there too. It is public for `dvdcap lost`, which is given the
+/// layout's options of a run of `recover`.
 #[tactic(auto, unfolding(crate::specs::Reading::settings_of))]
-fn settings(command: Command, matches: &ArgMatches<'_>) -> Option<Settings>
+pub fn read_options(command: Command, matches: &ArgMatches<'_>) -> Option<Settings>
     ensures value { result ≡ settings_of command (rows_of (found_of matches.now)) }
     ensures valid { IfSome result IsValid }
 {

@@ -1,10 +1,10 @@
 -- The lines of the report of `mark`. Each ends with one line feed.
 use Rattle.std.specs.Prelude.{ℕ, zero, suc, List, [], ◌++◌, codes, decimal}
-use Rattle.cap_map.specs.declared.fault.MapCause.{MapCause}
-use Rattle.cap_map.specs.declared.fault.MapCause.TheVariants as causes
-use Rattle.cap_top.specs.Closing.{rule_line}
+use Rattle.cap_map.specs.declared.fault.MapFault.TheVariants as faults
+use Rattle.cap_top.specs.Causes.{rule_line}
 use Rattle.cap_top.specs.declared.mark.opening.MapRefusal.{MapRefusal}
-use Rattle.cap_top.specs.declared.mark.opening.MapRefusal.TheVariants.{NoMemory, ReadFault, Rule}
+use Rattle.cap_top.specs.declared.mark.opening.MapRefusal.TheVariants.{ReadFault, Text}
+use Rattle.cap_top.specs.declared.causes.LineCause.TheVariants as causes
 use Rattle.dvd_loop.specs.declared.ends.LoopEnd.{LoopEnd}
 use Rattle.dvd_loop.specs.declared.ends.LoopEnd.TheVariants as ends
 
@@ -22,19 +22,8 @@ closing_line (ends.Short frame bytes) = short_line frame bytes
 closing_line ends.Long = codes "long\n"
 closing_line other = []
 
--- the rule that a line of the map breaks
-abbrev pub cause_text : MapCause → List ℕ
-cause_text causes.State = codes "no state"
-cause_text causes.Fields = codes "fields"
-cause_text causes.Number = codes "number"
-cause_text causes.Status = codes "status"
-cause_text causes.Empty = codes "empty"
-cause_text causes.TooLong = codes "too long"
-cause_text causes.Gap = codes "gap"
-cause_text causes.Overlap = codes "overlap"
-
 -- the line of a run that doesn't begin
 abbrev pub refusal_line : MapRefusal → List ℕ
-refusal_line NoMemory = codes "no memory\n"
 refusal_line ReadFault = codes "map: read fault\n"
-refusal_line (Rule line cause) = rule_line (codes "map: line ") line (cause_text cause)
+refusal_line (Text faults.NoMemory) = codes "no memory\n"
+refusal_line (Text (faults.Rule line cause)) = rule_line (causes.Map cause) line

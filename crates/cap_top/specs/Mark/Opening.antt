@@ -6,7 +6,7 @@ use Rattle.cap_map.specs.declared.fault.MapCause.{MapCause}
 use Rattle.cap_map.specs.declared.fault.MapFault.TheVariants as faults
 use Rattle.cap_map.specs.declared.span.Span.{Span}
 use Rattle.cap_top.specs.declared.mark.opening.MapRefusal.{MapRefusal}
-use Rattle.cap_top.specs.declared.mark.opening.MapRefusal.TheVariants.{NoMemory, ReadFault, Rule}
+use Rattle.cap_top.specs.declared.mark.opening.MapRefusal.TheVariants.{ReadFault, Text}
 use Rattle.dvd_ports.specs.Causes.{HasFailed, HasMetEnd}
 use Rattle.dvd_ports.specs.Seen.{Seen}
 
@@ -30,12 +30,12 @@ pub record BreaksMap (good : List ℕ) (old new : Seen) (line : ℕ) (cause : Ma
 
 -- why the text of a map isn't read: one read failed, the last; or there is no memory, and a contract can say no more
 abbrev pub IsTextFault : Seen → Seen → MapRefusal → Type 0
-IsTextFault old new NoMemory = Unit {0}
 IsTextFault old new ReadFault = HasFailed old new
-IsTextFault old new (Rule line cause) = ⊥
+IsTextFault old new (Text faults.NoMemory) = Unit {0}
+IsTextFault old new (Text (faults.Rule line cause)) = ⊥
 
 -- why there are no spans
 abbrev pub IsMapRefused : List ℕ → Seen → Seen → MapRefusal → Type 0
-IsMapRefused good old new NoMemory = Unit {0}
 IsMapRefused good old new ReadFault = HasFailed old new
-IsMapRefused good old new (Rule line cause) = BreaksMap good old new line cause
+IsMapRefused good old new (Text faults.NoMemory) = Unit {0}
+IsMapRefused good old new (Text (faults.Rule line cause)) = BreaksMap good old new line cause

@@ -1,5 +1,6 @@
 -- The exit statuses of `mark`.
 use Rattle.std.specs.Prelude.{ℕ, zero, suc}
+use Rattle.cap_map.specs.declared.fault.MapFault.TheVariants as faults
 use Rattle.cap_top.specs.declared.mark.opening.MapRefusal.{MapRefusal}
 use Rattle.cap_top.specs.declared.mark.opening.MapRefusal.TheVariants as refusals
 use Rattle.cap_top.specs.declared.status.Status.{Status}
@@ -23,6 +24,6 @@ status_of other = status.ReportFault
 
 -- the status of a run that doesn't begin
 abbrev pub refusal_status : MapRefusal → Status
-refusal_status refusals.NoMemory = status.NoMemory
 refusal_status refusals.ReadFault = status.ReadFault
-refusal_status (refusals.Rule line cause) = status.BadInput
+refusal_status (refusals.Text faults.NoMemory) = status.NoMemory
+refusal_status (refusals.Text (faults.Rule line cause)) = status.BadInput

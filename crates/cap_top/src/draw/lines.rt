@@ -1,12 +1,12 @@
-//! The lines of the report of `draw`. Each run has one, which closes it, and scripts may look for its text. A `Line`
-//! has room for 256 bytes; `short` and the bounds of `fixed_end` and `rule_end` keep within it.
-ghost use Rattle.std.specs.Prelude.{◌≡◌, ◌≤◌, length};
+//! The lines of the report of `draw`. Each run has one, which closes it, and scripts may look for its text.
+ghost use Rattle.std.specs.Prelude.{◌≡◌};
 ghost use Rattle.cap_draw.specs.declared.drawing.DrawEnd.TheVariants.{Short};
-ghost use Rattle.cap_top.specs.Draw.{draw_line, draw_status, rule_text};
+ghost use Rattle.cap_top.specs.Draw.{draw_line, draw_status};
 
+use crate::causes::LineCause;
 use crate::closing::{RunEnd, fixed_end, rule_end};
 use crate::status::Status;
-use cap_draw::{DrawEnd, SurveyCause};
+use cap_draw::DrawEnd;
 use dvd_report::Line;
 
 /// The status of a run, and the line that closes its report.
@@ -19,7 +19,7 @@ pub fn draw_end(end: DrawEnd) -> RunEnd
         DrawEnd::Short { line, bytes } => short_end(line, bytes),
         DrawEnd::ReadFault => fixed_end(Status::ReadFault, b"read fault\n"),
         DrawEnd::WriteFault => fixed_end(Status::WriteFault, b"write fault\n"),
-        DrawEnd::Rule(fault) => rule_end(b"survey: line ", fault.line, rule_text(fault.cause)),
+        DrawEnd::Rule(fault) => rule_end(LineCause::Survey(fault.cause), fault.line),
         DrawEnd::NoMemory => fixed_end(Status::NoMemory, b"no memory\n"),
     }
 }
@@ -37,22 +37,5 @@ fn short_end(number: u64, bytes: u64) -> RunEnd
     RunEnd {
         status: Status::Short,
         line,
-    }
-}
-
-// The words of a rule. They are this report's own, since `SurveyCause` displays longer texts. `short` is what
-// `rule_end` asks for, with room to spare.
-fn rule_text(cause: SurveyCause) -> &'static [u8]
-    ensures text { result.now ≡ rule_text cause }
-    ensures short { length result.now ≤ 8 }
-{
-    match cause {
-        SurveyCause::Form => b"form",
-        SurveyCause::Order => b"order",
-        SurveyCause::Range => b"range",
-        SurveyCause::Sum8 => b"sum8",
-        SurveyCause::TooMany => b"too many",
-        SurveyCause::Totals => b"totals",
-        SurveyCause::After => b"after",
     }
 }

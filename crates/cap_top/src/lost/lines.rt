@@ -1,12 +1,13 @@
 //! The lines of the report of `lost`, one of which closes each run.
-ghost use Rattle.std.specs.Prelude.{◌≡◌, ◌≤◌, length};
+ghost use Rattle.std.specs.Prelude.{◌≡◌};
 ghost use Rattle.cap_top.specs.Lost.{line_by, refusal_status, status_by};
-ghost use Rattle.cap_top.specs.Lost.Lines.{cause_text, refusal_line};
+ghost use Rattle.cap_top.specs.Lost.Lines.{refusal_line};
 ghost use Rattle.dvd_report.specs.Setting.{setting_line};
 
+use crate::causes::LineCause;
 use crate::closing::{RunEnd, fixed_end, rule_end};
 use crate::status::Status;
-use cap_lost::{ReportCause, ReportFault};
+use cap_lost::ReportFault;
 use dvd_layout::LayoutFault;
 use dvd_ports::WriteFault;
 use dvd_report::setting_line;
@@ -42,25 +43,6 @@ pub fn refusal_end(fault: ReportFault) -> RunEnd
     match fault {
         ReportFault::NoMemory => fixed_end(Status::NoMemory, b"no memory\n"),
         ReportFault::ReadFault => fixed_end(Status::ReadFault, b"read fault\n"),
-        ReportFault::Rule { line, cause } => rule_end(b"report: line ", line, text_of(cause)),
-    }
-}
-
-// The words of a rule. `short` is what `rule_end` asks for: a `Line` has room for a bounded text. They are those that
-// `ReportCause` displays, here as bytes.
-fn text_of(cause: ReportCause) -> &'static [u8]
-    ensures text { result.now ≡ cause_text cause }
-    ensures short { length result.now ≤ 20 }
-{
-    match cause {
-        ReportCause::Line => b"not a report line",
-        ReportCause::Block => b"no such block",
-        ReportCause::Place => b"other place",
-        ReportCause::NoImage => b"no image sectors",
-        ReportCause::Order => b"out of order",
-        ReportCause::Count => b"wrong count",
-        ReportCause::Fault => b"ended by a fault",
-        ReportCause::AfterEnd => b"after the end",
-        ReportCause::NoEnd => b"no closing line",
+        ReportFault::Rule { line, cause } => rule_end(LineCause::Report(cause), line),
     }
 }

@@ -1,12 +1,13 @@
 //! The lines of the report of `mark`, one of which closes each run.
-ghost use Rattle.std.specs.Prelude.{◌≡◌, ◌≤◌, length};
-ghost use Rattle.cap_top.specs.Mark.Lines.{cause_text, closing_line, refusal_line};
+ghost use Rattle.std.specs.Prelude.{◌≡◌};
+ghost use Rattle.cap_top.specs.Mark.Lines.{closing_line, refusal_line};
 ghost use Rattle.cap_top.specs.Mark.Statuses.{refusal_status};
 
 use super::opening::MapRefusal;
+use crate::causes::LineCause;
 use crate::closing::{RunEnd, fixed_end, rule_end};
 use crate::status::Status;
-use cap_map::MapCause;
+use cap_map::MapFault;
 use dvd_loop::LoopEnd;
 use dvd_report::Line;
 
@@ -39,26 +40,8 @@ pub fn refusal_end(refusal: MapRefusal) -> RunEnd
     ensures line { result.line ≡ refusal_line refusal }
 {
     match refusal {
-        MapRefusal::NoMemory => fixed_end(Status::NoMemory, b"no memory\n"),
         MapRefusal::ReadFault => fixed_end(Status::ReadFault, b"map: read fault\n"),
-        MapRefusal::Rule { line, cause } => rule_end(b"map: line ", line, text_of(cause)),
-    }
-}
-
-// The words of a rule. `short` is what `rule_end` asks for: a `Line` has room for a bounded text. They are those that
-// `MapCause` displays, here as bytes.
-fn text_of(cause: MapCause) -> &'static [u8]
-    ensures text { result.now ≡ cause_text cause }
-    ensures short { length result.now ≤ 8 }
-{
-    match cause {
-        MapCause::State => b"no state",
-        MapCause::Fields => b"fields",
-        MapCause::Number => b"number",
-        MapCause::Status => b"status",
-        MapCause::Empty => b"empty",
-        MapCause::TooLong => b"too long",
-        MapCause::Gap => b"gap",
-        MapCause::Overlap => b"overlap",
+        MapRefusal::Text(MapFault::NoMemory) => fixed_end(Status::NoMemory, b"no memory\n"),
+        MapRefusal::Text(MapFault::Rule { line, cause }) => rule_end(LineCause::Map(cause), line),
     }
 }
