@@ -56,56 +56,59 @@ fn term(text: &str) -> Option<usize> {
     number(count)?.checked_mul(size)
 }
 
-/// Numbers, as `3`, `0 to 15` or `0 to 206 step 2`.
-#[derive(Clone, Copy)]
-pub struct NumberRange {
-    first: usize,
-    step: usize,
-    /// How many there are: at least one. Callers go over them by their place, as `at` asks.
-    pub count: usize,
+/// Numbers, as `3`, `0 to 15` or `0 to 206 step 2`. Both ends belong to them, as far as the steps meet the last.
+/// Refused are a last number below the first, and the step 0, by which nothing can be divided.
+pub fn numbers(alloc: Global, text: &str) -> Option<Vec<usize>> {
+    let (range, step) = text.split_once(" step ").unwrap_or((text, "1"));
+    let (first, last) = range.split_once(" to ").unwrap_or((range, range));
+    let (first, last, step) = (number(first)?, number(last)?, number(step)?);
+    let mut numbers = Vec::new(alloc);
+    for k in 0..=last.checked_sub(first)?.checked_div(step)? {
+        numbers
+            .push(first.saturating_add(k.saturating_mul(step)))
+            .ok()?;
+    }
+    Some(numbers)
 }
 
-impl NumberRange {
-    /// The numbers of a text. Both ends belong to them, as far as the steps meet the last. Refused are a last number
-    /// below the first, and the step 0, by which nothing can be divided.
-    pub fn of(text: &str) -> Option<NumberRange> {
-        let (range, step) = text.split_once(" step ").unwrap_or((text, "1"));
-        let (first, last) = range.split_once(" to ").unwrap_or((range, range));
-        let (first, last, step) = (number(first)?, number(last)?, number(step)?);
-        let steps = last.checked_sub(first)?.checked_div(step)?;
-        let count = steps.checked_add(1)?;
-        Some(NumberRange { first, step, count })
+/// The text with what its lines `name: NAME = TEXT` say in place of each `<NAME>`. A name that no line gives stays, and
+/// is refused where the text is used.
+pub fn put_names(alloc: Global, text: &str) -> Option<String> {
+    let mut spelt = String::from_str(alloc, text).ok()?;
+    for line in text.lines() {
+        if let Some(definition) = line.strip_prefix("name: ") {
+            let (name, value) = definition.split_once(" = ")?;
+            let name = format!(in alloc; "<{name}>").ok()?;
+            spelt = spelt.replace(alloc, name.as_str(), value).ok()?;
+        }
     }
-
-    /// Number `k` of them, from 0 on. That `k` is below `count` isn't tested: callers do.
-    pub fn at(self, k: usize) -> usize {
-        self.first.saturating_add(k.saturating_mul(self.step))
-    }
+    Some(spelt)
 }
 
-/// Writes the text with the value of case `k` in place of all values in these brackets. Answers how many cases there
-/// are: as many as the longest list has values, or 1 without brackets. A shorter one fails at its end, so that no case
-/// is passed over. A caller asks for case 0 first, to know the number; the buffer is its own, and is used again.
-pub fn spell(
-    alloc: Global,
-    text: &str,
-    brackets: [char; 2],
-    k: usize,
-    spelt: &mut String,
-) -> Option<usize> {
-    let mut cases = 1;
-    spelt.clear();
-    let Some((prefix, rest)) = text.split_once(brackets[0]) else {
-        spelt.push_str(text).ok()?;
-        return Some(cases);
-    };
-    spelt.push_str(prefix).ok()?;
-    for part in rest.split(brackets[0]) {
-        let (values, rest) = part.split_once(brackets[1])?;
-        cases = put_value(alloc, values, k, spelt)?.max(cases);
-        spelt.push_str(rest).ok()?;
+/// The cases of a text: with the first value of each list in these brackets, with the second one, and so on. There are
+/// as many as the longest list has values, or one without brackets. A shorter list fails at its end, so that no case is
+/// passed over.
+pub fn cases(alloc: Global, text: &str, brackets: [char; 2]) -> Option<Vec<String>> {
+    let mut cases = Vec::new(alloc);
+    let (first, count) = spell(alloc, text, brackets, 0)?;
+    cases.push(first).ok()?;
+    for k in 1..count {
+        cases.push(spell(alloc, text, brackets, k)?.0).ok()?;
     }
     Some(cases)
+}
+
+// The text with the value of case `k` in place of all values, and how many cases there are.
+fn spell(alloc: Global, text: &str, brackets: [char; 2], k: usize) -> Option<(String, usize)> {
+    let (mut spelt, mut count) = (String::new(alloc), 1);
+    let mut parts = text.split(brackets[0]);
+    spelt.push_str(parts.next()?).ok()?;
+    for part in parts {
+        let (values, rest) = part.split_once(brackets[1])?;
+        count = put_value(alloc, values, k, &mut spelt)?.max(count);
+        spelt.push_str(rest).ok()?;
+    }
+    Some((spelt, count))
 }
 
 // The values are words with commas between them, or numbers, as `{0 to 15}`. What has no comma is numbers: a single
@@ -115,9 +118,8 @@ fn put_value(alloc: Global, values: &str, k: usize, spelt: &mut String) -> Optio
         spelt.push_str(values.split(", ").nth(k)?).ok()?;
         return Some(values.split(", ").count());
     }
-    let span = NumberRange::of(values)?;
-    is(k < span.count)?;
-    let number = format!(in alloc; "{}", span.at(k)).ok()?;
+    let numbers = numbers(alloc, values)?;
+    let number = format!(in alloc; "{}", numbers.get(k)?).ok()?;
     spelt.push_str(number.as_str()).ok()?;
-    Some(span.count)
+    Some(numbers.len())
 }

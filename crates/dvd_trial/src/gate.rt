@@ -14,60 +14,54 @@ pub struct Counting {
     // Whether pieces 0 and 1 wait until the other has been called as often. Two are enough to show it.
     meets: bool,
     // The calls of each piece, up to 15: a hexadecimal digit each, that of piece 0 the lowest, so sixteen fit 64 bits.
-    // One number for all, since workers share it and it is compared at once. No test has more calls of a piece.
+    // One number for all, since workers share it and it is compared at once. No test has more calls of a piece, or so
+    // many pieces: the highest digit counts faults, which are the calls of piece 15 and any above, and waits that ran
+    // out. After one nobody waits, since the run has failed then.
     digits: AtomicU64,
-    // Calls of a piece that can't be, and waits that ran out. After one nobody waits, since the run has failed then.
-    faults: AtomicU64,
 }
 
 impl Counting {
     pub fn new(meets: bool) -> Counting {
-        let (digits, faults) = (AtomicU64::new(0), AtomicU64::new(0));
-        Counting {
-            meets,
-            digits,
-            faults,
-        }
+        let digits = AtomicU64::new(0);
+        Counting { meets, digits }
     }
 
-    // The digit of a piece. `% 16` changes no piece that is asked for: it shows that the shift is below 64. The order
-    // of all accesses here is the strictest one, since a test needn't be quick.
+    // Counts a call of a piece. The order of all accesses here is the strictest one, since a test needn't be quick.
+    fn count(&self, piece: usize) {
+        self.digits
+            .fetch_add(1 << (4 * piece.min(15)), Ordering::SeqCst);
+    }
+
+    // The digit of a piece.
     fn calls(&self, piece: usize) -> u64 {
-        self.digits.load(Ordering::SeqCst) >> (4 * (piece % 16)) & 0xF
-    }
-
-    // Waits until the other piece has been called so often, or a fault is counted. That the looks run out is one: so a
-    // wait always ends, and the run is seen to have failed.
-    fn wait(&self, other: usize, calls: u64) {
-        for _ in 0..MOST_LOOKS {
-            if self.calls(other) >= calls || self.faults.load(Ordering::SeqCst) > 0 {
-                return;
-            }
-        }
-        self.faults.fetch_add(1, Ordering::SeqCst);
+        self.digits.load(Ordering::SeqCst) >> (4 * piece.min(15)) & 0xF
     }
 
     /// Whether each of the first `pieces` pieces was called `times` times, and no other, and no wait ran out. The
     /// number that must be is built digit by digit, all alike.
     pub fn has_counted(&self, pieces: usize, times: usize) -> bool {
         let mut digits: u64 = 0;
-        for _ in 0..pieces.min(16) {
+        for _ in 0..pieces.min(15) {
             digits = digits << 4 | times as u64 & 0xF;
         }
-        self.digits.load(Ordering::SeqCst) == digits && self.faults.load(Ordering::SeqCst) == 0
+        self.digits.load(Ordering::SeqCst) == digits
     }
 }
 
 impl Gate for Counting {
+    // Counts, and then waits until the other piece has been called as often, or a fault is counted. It counts first,
+    // since the other waits for this count. That the looks run out is a fault: so a wait always ends, and the run is
+    // seen to have failed.
     fn pass(&self, piece: usize) {
-        // Counted before it waits, since the other waits for this count.
-        if piece < 16 {
-            self.digits.fetch_add(1 << (4 * piece), Ordering::SeqCst);
-        } else {
-            self.faults.fetch_add(1, Ordering::SeqCst);
+        self.count(piece);
+        if !self.meets || piece > 1 {
+            return;
         }
-        if self.meets && piece < 2 {
-            self.wait(1 - piece, self.calls(piece));
+        for _ in 0..MOST_LOOKS {
+            if self.calls(1 - piece) >= self.calls(piece) || self.calls(15) > 0 {
+                return;
+            }
         }
+        self.count(15);
     }
 }

@@ -4,25 +4,32 @@
 //! since nothing but tests rests on them: only that they are safe and end is proved.
 //!
 //! ```text
-//! given: image of 17 sectors | master --sectors 17 makes 2 blocks | marked
+//! given: image of 17 sectors | recorded | marked
 //! run: recover --sectors 17 --form marked
 //! output: image of 17 sectors | zero: sectors 0 to 1
-//! case: lost: block 0, rows 0 to 16 -> Damaged, 17 sectors: block 0 sector 030000 layer 0: rows 17 saved 14/..
+//! case: lost: block 0, rows 0 to 16 -> Damaged: block 0 sector 030000 layer 0: rows 17 saved 14/..
 //! ```
 //!
 //! `given` are the bytes that cases have in common, and `case` is one of them, changed; `also` changes those in common.
 //! `output` is all that a run writes where nothing fails. After `run` come the arguments of a run, and after each `or`
-//! others, which leave the same to the last byte. What must come follows `->`: status, length of the output, a prefix
-//! of the whole one, and the lines of the report, with `/` between them; one that ends in `..` is cut off there. After
+//! others, which leave the same to the last byte. What must come follows `->`: the status, after a comma the length of
+//! the output, and after a colon the lines of the report, with `/` between them. Without a length all of the output has
+//! to come, and with one a prefix of it, or any bytes where no text says the output. Without lines the report is
+//! `done`, and one that ends in `..` is cut off there. More comes after `; ` each, and after `with` the output. After
 //! `=>` it comes again where all streams move 1, 7, 2047 or 40,000 bytes a call. What is run and the case stay until
-//! others take their place; `given` lets go of the output, which then may be any, and `given` and `also` of the case.
-//! Nothing after `#` is read. A line with values in braces, as `{3, 5}` or `{0 to 15}`, is tried with each, and so is a
-//! group of lines, up to an empty one, with values in brackets.
+//! others take their place; `given` lets go of the output, and `given` and `also` of the case. Nothing after `#` is
+//! read.
+//!
+//! A line with values in braces, as `{3, 5}` or `{0 to 15}`, is tried with each, and so is a group of lines, up to an
+//! empty one, with values in brackets. A line of a report with values in parentheses comes once with each of them.
+//! After `name: marks = row 3` these words are read in place of each `<marks>` of the text.
 //!
 //! ```text
+//! -> Done with image of 16 sectors           this is the whole output, and `done` the report
+//! -> Done, 2 blocks; digest: ..; read: 3 blocks; last line: ..
+//!                                            of the output, and how much of the input was read
+//! -> Done; at 2 blocks and 12 bytes: ACA6AD  these bytes are there in it
 //! reads: 700 bytes a call, call 2 fails      the next run reads so; `writes`, `reports`
-//! digest: .., last line: .., read: 2 blocks  of the output that came last, and how much of the input was read
-//! at 2 blocks and 12 bytes: ACA6AD           these bytes are there in it
 //! all fail in turn: 9 reads of 5000 bytes, 4 reports of 7 bytes
 //!                                            these are all calls of a stream; where one fails, each in turn, all that
 //!                                            was done before it is left
@@ -37,9 +44,11 @@
 //! ```text
 //! nothing, as given, given                   none are added; the bytes in common, in an output
 //! image of 17 sectors                        bytes that are drawn; `counted sector`: byte i is 7i + i / 256
+//! master --sectors 16 --zones all makes 273 blocks
+//!                                            they become what a run writes over them, so many bytes; `recorded`:
+//!                                            what `master` writes over them, a block for sixteen sectors
 //! 2 blocks of 5A, hex 49F1                   bytes of this value; these bytes. `then 1 byte of 5A` is added to others
 //! lines blocks 1 pi 0/done                   lines of text
-//! master --sectors 17 makes 2 blocks         they become what a run writes over them, 2 blocks
 //! marked                                     they become a capture in the marked form without a mark
 //! listed shape 0 zones 0 sectors 17 and 0 initial 0 tail 16 runs 0:2
 //!                                            they become a listed capture with this header; after each block come the
@@ -60,7 +69,7 @@
 //! bytes; rows, bytes or blocks that aren't named are all. Frame f has rows 12f to 12f + 11 and row 192 + f.
 #![tactic(auto)]
 
-mod amounts; // numbers, amounts, lists of numbers and lines of several cases
+mod amounts; // numbers, amounts, lists of numbers, names and lines of several cases
 mod damage; // bytes that are lost, wrong or doubtful
 mod failure; // what is printed where a result isn't the one expected
 mod gate; // a gate that counts what several workers do

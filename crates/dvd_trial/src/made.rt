@@ -3,7 +3,7 @@
 //! or want of memory; steps that can't fail answer too, so that `do_step` has one form. Bytes are made here without the
 //! crates that are tested, but for what `master` and others write.
 use crate::amounts::{
-    BLOCK_BYTES, MARKED_BLOCK_BYTES, MARKED_ROW_BYTES, ROW_BYTES, amount, byte, is, number,
+    BLOCK_BYTES, MARKED_BLOCK_BYTES, MARKED_ROW_BYTES, ROW_BYTES, amount, byte, cases, is, number,
 };
 use crate::damage::damage_bytes;
 use std::alloc::Global;
@@ -19,7 +19,7 @@ pub fn do_step(alloc: Global, text: &str, bytes: &mut Vec<u8>) -> Option<()> {
         "image" => add_image(amount(rest.strip_prefix("of ")?)?, bytes),
         "counted" => add_counted(bytes),
         "hex" => append_bytes(bytes, &hex::decode(alloc, rest).ok()?),
-        "lines" => add_lines(bytes, rest),
+        "lines" => add_lines(alloc, bytes, rest),
         "marked" => add_marks(alloc, bytes),
         "listed" => list(alloc, bytes, rest),
         "woven" => weave(alloc, bytes),
@@ -29,7 +29,7 @@ pub fn do_step(alloc: Global, text: &str, bytes: &mut Vec<u8>) -> Option<()> {
         "cut" => move_bytes(verb, amount(rest.strip_prefix("off ")?)?, bytes),
         "repeat" => move_bytes(verb, amount(rest.strip_prefix("the last ")?)?, bytes),
         _ => match text.split_once(": ") {
-            Some((kind, places)) => damage_bytes(kind, places, bytes),
+            Some((kind, places)) => damage_bytes(alloc, kind, places, bytes),
             None => add_value(bytes, text),
         },
     }
@@ -54,11 +54,14 @@ pub fn append_bytes(bytes: &mut Vec<u8>, more: &[u8]) -> Option<()> {
 }
 
 /// Adds lines, after each of which but the last one comes a `/`: a text is read line by line, so that it can't have
-/// their ends itself. No line that is wanted has a `/`. `trial` calls it too, for the report that must come.
-pub fn add_lines(bytes: &mut Vec<u8>, text: &str) -> Option<()> {
-    for line in text.split('/') {
-        append_bytes(bytes, line.as_bytes())?;
-        append_bytes(bytes, b"\n")?;
+/// their ends itself. No line that is wanted has a `/`. One with values in parentheses comes once with each of them.
+/// `trial` calls it too, for the report that must come.
+pub fn add_lines(alloc: Global, bytes: &mut Vec<u8>, text: &str) -> Option<()> {
+    for lines in text.split('/') {
+        for line in &cases(alloc, lines, ['(', ')'])? {
+            append_bytes(bytes, line.as_bytes())?;
+            append_bytes(bytes, b"\n")?;
+        }
     }
     Some(())
 }
@@ -170,40 +173,31 @@ fn list(alloc: Global, bytes: &mut Vec<u8>, text: &str) -> Option<()> {
     Some(())
 }
 
-// As `shape 0 zones 0 sectors 17 and 0 initial 0 tail 16`: the letters and number of the form, six numbers in this
-// order, and zeros where the header has no field. `filter_map` passes over the words between the numbers.
+// As `shape 0 zones 0 sectors 17 and 0 initial 0 tail 16`: the letters and number of the form, two numbers of a byte
+// and four of four bytes, and zeros where the header has no field. `filter_map` passes over the words between the
+// numbers.
 fn add_header(listed: &mut Vec<u8>, text: &str) -> Option<()> {
-    let mut numbers = [0; 6];
-    let mut words = text.split(' ').filter_map(number);
-    for number in &mut numbers {
-        *number = words.next()?;
-    }
+    let mut numbers = text.split(' ').filter_map(number);
     append_bytes(listed, b"DVDECC\x00\x02")?;
-    let [shape, zones] = [numbers[0], numbers[1]];
-    append_bytes(
-        listed,
-        &[u8::try_from(shape).ok()?, u8::try_from(zones).ok()?, 0, 0],
-    )?;
-    for number in &numbers[2..] {
-        append_bytes(listed, &u32::try_from(*number).ok()?.to_be_bytes())?;
+    for _ in 0..2 {
+        listed.push(u8::try_from(numbers.next()?).ok()?).ok()?;
+    }
+    append_bytes(listed, &[0; 2])?;
+    for _ in 0..4 {
+        append_bytes(listed, &u32::try_from(numbers.next()?).ok()?.to_be_bytes())?;
     }
     append_bytes(listed, &[0; 4])
 }
 
-// Runs as `0:2 5:1`: the number of runs, and the first place and the length of each.
+// Runs as `0:2 5:1`: the number of runs, and the first place and the length of each, in two bytes, the highest first.
+// One that has no room is refused.
 fn add_runs(listed: &mut Vec<u8>, text: &str) -> Option<()> {
     let count = text.split_whitespace().count();
-    add_number(listed, count)?;
+    append_bytes(listed, &u16::try_from(count).ok()?.to_be_bytes())?;
     for run in text.split_whitespace() {
         let (first, length) = run.split_once(':')?;
-        add_number(listed, number(first)?)?;
-        add_number(listed, number(length)?)?;
+        append_bytes(listed, &first.parse::<u16>().ok()?.to_be_bytes())?;
+        append_bytes(listed, &length.parse::<u16>().ok()?.to_be_bytes())?;
     }
     Some(())
-}
-
-// A number of runs, a place or a length, as the form has it: two bytes, the highest first. One that has no room is
-// refused.
-fn add_number(listed: &mut Vec<u8>, number: usize) -> Option<()> {
-    append_bytes(listed, &u16::try_from(number).ok()?.to_be_bytes())
 }

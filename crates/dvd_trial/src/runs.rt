@@ -2,7 +2,7 @@
 //! the program: its arguments as words, its streams over memory by the adapters that `main` has, and its status.
 //! `derive(Drop)` lets an owner let go of a value.
 use crate::amounts::is;
-use crate::streams::{Input, Output, Plan, StreamCall, Watch};
+use crate::streams::{Input, Output, Plan, SOUND, StreamCall, Watch};
 use dvd_par::Gate;
 use dvd_ports::{StdSink, StdSource};
 use dvd_top::{Status, run};
@@ -15,10 +15,8 @@ pub struct Left {
     pub status: Status,
     pub output: Vec<u8>,
     pub report: Vec<u8>,
-    /// How many bytes it has read.
-    pub read: usize,
-    /// Whether a call failed or met the end of the input.
-    pub has_stopped: bool,
+    /// What its streams saw.
+    pub watch: Watch,
 }
 
 impl Left {
@@ -28,8 +26,7 @@ impl Left {
             status: Status::NoMemory,
             output: Vec::new(alloc),
             report: Vec::new(alloc),
-            read: 0,
-            has_stopped: false,
+            watch: Watch::new(SOUND),
         }
     }
 
@@ -56,8 +53,8 @@ pub fn words_of(alloc: Global, text: &str) -> Option<Vec<String>> {
 }
 
 /// Runs the arguments over these bytes, where the workers ask this gate. Answers whether nothing was tried again: so
-/// each run of each text tests that. The buffers of `left` are emptied and used again, so it is handed over by the
-/// caller.
+/// each run of each text tests that. What it leaves is handed over by the caller, so that it is there to be printed
+/// where something was.
 pub fn run_over<R: AllocGlobal + Threads + Sync, G: Gate>(
     rt: &R,
     gate: &G,
@@ -66,40 +63,18 @@ pub fn run_over<R: AllocGlobal + Threads + Sync, G: Gate>(
     plan: Plan,
     left: &mut Left,
 ) -> Option<()> {
-    let words = words_of(rt.alloc(), text)?;
-    let watch = Watch::new(plan);
-    left.output.clear();
-    left.report.clear();
-    let (rest, calls, has_failed) = (bytes, 0, false);
-    let input = Input {
-        watch: &watch,
-        rest,
-        calls,
-    };
-    let output = Output {
-        watch: &watch,
-        call: StreamCall::Write,
-        held: &mut left.output,
-        has_failed,
-        calls,
-    };
-    let report = Output {
-        watch: &watch,
-        call: StreamCall::Report,
-        held: &mut left.report,
-        has_failed,
-        calls,
-    };
-    left.status = run(
-        rt,
-        rt.alloc(),
-        &words,
-        gate,
-        &mut StdSource::new(input),
-        &mut StdSink::new(output),
-        &mut StdSink::new(report),
-    );
-    left.read = watch.read.get();
-    left.has_stopped = watch.has_stopped.get();
-    is(watch.is_kept())
+    let alloc = rt.alloc();
+    let words = words_of(alloc, text)?;
+    *left = Left::new(alloc);
+    left.watch = Watch::new(plan);
+    let watch = &left.watch;
+    let input = Input { watch, rest: bytes };
+    let (call, held) = (StreamCall::Write, &mut left.output);
+    let output = Output { watch, call, held };
+    let (call, held) = (StreamCall::Report, &mut left.report);
+    let report = Output { watch, call, held };
+    let source = &mut StdSource::new(input);
+    let (sink, lines) = (&mut StdSink::new(output), &mut StdSink::new(report));
+    left.status = run(rt, alloc, &words, gate, source, sink, lines);
+    is(left.watch.is_kept())
 }

@@ -2,7 +2,7 @@
 //! them. This crate is for tests alone, so its functions have no clauses. None as an answer is a line that doesn't hold
 //! or can't be read, or want of memory: whichever it is, the test fails, and the line is printed. Lists are swapped and
 //! not copied where that does, since a copy needs memory and may fail. `derive(Drop)` lets an owner let go of a value.
-use crate::amounts::{amount, is, spell};
+use crate::amounts::{BLOCK_BYTES, amount, cases, is, put_names};
 use crate::made::{add_lines, append_bytes, do_step};
 use crate::runs::{Left, run_over};
 use crate::streams::{Plan, SOUND};
@@ -27,7 +27,8 @@ pub struct TrialState<'a, R> {
     twin: Vec<u8>,
     /// The whole output, where a text says it.
     pub output: Option<Vec<u8>>,
-    /// The arguments of each run, with ` or ` between the runs, and which of them ran last.
+    /// The arguments of each run, with ` or ` between the runs, and which of them ran last. They are taken apart at
+    /// each run: no argument is the word `or`.
     pub words: String,
     pub last: usize,
     /// What the streams of the next run do.
@@ -62,15 +63,13 @@ impl<'a, R: AllocGlobal + Threads + Sync> TrialState<'a, R> {
         }
     }
 
-    /// Whether what a text says holds, for each case of each of its groups. The first `spell` counts the cases: as many
-    /// as brackets have values, all brackets going on together, and one where there are none. What a group leaves in
-    /// the state stays for the next, and texts rest on it. None is also a text that can't be read, or want of memory.
+    /// Whether what a text says holds, for each case of each of its groups. What a group leaves in the state stays for
+    /// the next, and texts rest on it. None is also a text that can't be read, or want of memory.
     pub fn holds(&mut self, text: &str) -> Option<()> {
-        let mut spelt = String::new(self.alloc);
-        for group in text.split("\n\n") {
-            for k in 0..spell(self.alloc, group, ['[', ']'], 0, &mut spelt)? {
-                spell(self.alloc, group, ['[', ']'], k, &mut spelt)?;
-                for line in spelt.lines() {
+        let text = put_names(self.alloc, text)?;
+        for groups in text.split("\n\n") {
+            for group in &cases(self.alloc, groups, ['[', ']'])? {
+                for line in group.lines() {
                     self.line_holds(line)?;
                 }
             }
@@ -78,15 +77,12 @@ impl<'a, R: AllocGlobal + Threads + Sync> TrialState<'a, R> {
         Some(())
     }
 
-    // Whether a line holds, for each of its cases. The first `spell` counts them. The line that doesn't hold is kept as
-    // it was spelt, to be printed.
+    // Whether a line holds, for each of its cases. One that doesn't hold is kept as it was spelt, to be printed.
     fn line_holds(&mut self, line: &str) -> Option<()> {
         let (line, _) = line.split_once('#').unwrap_or((line, ""));
-        let mut spelt = String::new(self.alloc);
-        for k in 0..spell(self.alloc, line, ['{', '}'], 0, &mut spelt)? {
-            spell(self.alloc, line, ['{', '}'], k, &mut spelt)?;
-            if self.case_holds(spelt.as_str()).is_none() {
-                swap(&mut self.line, &mut spelt);
+        for line in cases(self.alloc, line, ['{', '}'])? {
+            if self.case_holds(line.as_str()).is_none() {
+                self.line = line;
                 return None;
             }
         }
@@ -97,34 +93,35 @@ impl<'a, R: AllocGlobal + Threads + Sync> TrialState<'a, R> {
     // the run is done once for each of its arguments, after `=>` also in pieces. An arrow is looked for first, since
     // what has to come has colons too.
     fn case_holds(&mut self, line: &str) -> Option<()> {
-        if let Some((part, wanted)) = line.split_once("->") {
-            self.part_holds(part.trim())?;
-            return self.comes(wanted.trim());
-        }
-        let Some((part, wanted)) = line.split_once("=>") else {
+        let arrow = if line.contains("=>") { "=>" } else { "->" };
+        let Some((part, wanted)) = line.split_once(arrow) else {
             return self.part_holds(line.trim());
         };
         self.part_holds(part.trim())?;
         self.comes(wanted.trim())?;
-        self.comes_in_pieces()
+        if arrow == "=>" {
+            self.comes_in_pieces()?;
+        }
+        Some(())
     }
 
     // One verb and what it is done to: verbs that set something, then those that ask for something. An empty part
-    // holds, as a line that only repeats the run has one. `at 2 blocks` has its amount before the colon, so it is what
-    // is left.
+    // holds, as a line that only repeats the run has one, and so does a name, which is in its places already.
     fn part_holds(&mut self, part: &str) -> Option<()> {
         let (verb, rest) = part.split_once(": ").unwrap_or((part, ""));
         match verb {
-            "" => Some(()),
+            "" | "name" => Some(()),
             "given" | "also" | "output" | "case" | "twin" => self.make(verb, rest),
-            "run" | "or" => self.put_words(verb, rest),
+            "run" => {
+                self.words = String::from_str(self.alloc, rest).ok()?;
+                Some(())
+            }
             "reads" | "writes" | "reports" => self.set_plan(verb, rest),
-            "digest" | "read" | "last line" => self.has(verb, rest),
             "alike" => self.are_alike(rest),
             "all fail in turn" => self.fail_in_turn(rest),
             "each call stops it" => self.stop_in_turn(rest),
             "pieces meet" | "pieces ask" => self.ask(rest, verb == "pieces meet"),
-            _ => self.has_bytes(amount(verb.strip_prefix("at ")?)?, rest),
+            _ => None,
         }
     }
 
@@ -151,33 +148,32 @@ impl<'a, R: AllocGlobal + Threads + Sync> TrialState<'a, R> {
         Some(())
     }
 
-    // What these steps make of the bytes. They become what a run writes over them, or a step is done to them. `left` is
-    // scratch here: what lines ask of a result is asked of `kept`, or at once after a run of their own. A step states
-    // the length, so that a run that leaves other bytes than its author meant fails here, and not where they are used.
+    // What these steps make of the bytes. A recording has a block of sixteen sectors, or of what is left after these.
     fn made(&mut self, text: &str, mut bytes: Vec<u8>) -> Option<Vec<u8>> {
-        for part in text.split(" | ") {
-            match part.split_once(" makes ") {
-                Some((words, length)) => {
-                    run_over(self.rt, &OpenGate, words, &bytes, SOUND, &mut self.left)?;
-                    swap(&mut bytes, &mut self.left.output);
-                    is(self.left.status == Status::Done && bytes.len() == amount(length)?)?;
-                }
-                None if part == "given" => append_bytes(&mut bytes, &self.given)?,
-                None => do_step(self.alloc, part, &mut bytes)?,
+        for step in text.split(" | ") {
+            if step == "recorded" {
+                let sectors = bytes.len() / 2048;
+                let words = format!(in self.alloc; "master --sectors {sectors}").ok()?;
+                let length = sectors.div_ceil(16).checked_mul(BLOCK_BYTES)?;
+                self.write_over(words.as_str(), length, &mut bytes)?;
+            } else if let Some((words, length)) = step.split_once(" makes ") {
+                self.write_over(words, amount(length)?, &mut bytes)?;
+            } else if step == "given" {
+                append_bytes(&mut bytes, &self.given)?;
+            } else {
+                do_step(self.alloc, step, &mut bytes)?;
             }
         }
         Some(bytes)
     }
 
-    // Keeps the arguments of a run: `run` in place of others, `or` after them. They are one text with ` or ` in it,
-    // which is taken apart at each run: no argument is the word `or`.
-    fn put_words(&mut self, verb: &str, text: &str) -> Option<()> {
-        if verb == "run" {
-            self.words.clear();
-        } else {
-            self.words.push_str(" or ").ok()?;
-        }
-        self.words.push_str(text).ok()
+    // The bytes become what a run writes over them. `left` is scratch here: what lines ask of a result is asked of
+    // `kept`, or at once after a run of their own. The length is stated, so that a run that leaves other bytes than
+    // its author meant fails here, and not where they are used.
+    fn write_over(&mut self, words: &str, length: usize, bytes: &mut Vec<u8>) -> Option<()> {
+        run_over(self.rt, &OpenGate, words, bytes, SOUND, &mut self.left)?;
+        swap(bytes, &mut self.left.output);
+        is(self.left.status == Status::Done && bytes.len() == length)
     }
 
     /// Runs the arguments of this number over the bytes of the case, where there are such. What it leaves is in `left`,
@@ -194,8 +190,17 @@ impl<'a, R: AllocGlobal + Threads + Sync> TrialState<'a, R> {
     fn comes(&mut self, wanted: &str) -> Option<()> {
         let plan = replace(&mut self.plan, SOUND);
         is(!self.words.is_empty())?;
+        let mut wanted = wanted;
+        if let Some((before, output)) = wanted.split_once(" with ") {
+            self.make("output", output)?;
+            wanted = before;
+        }
         self.go(0, plan)?;
-        self.has_come(wanted)?;
+        let mut facts = wanted.split("; ");
+        self.has_come(facts.next()?)?;
+        for fact in facts {
+            self.has(fact)?;
+        }
         swap(&mut self.left, &mut self.kept);
         self.stays(1, plan)
     }
@@ -210,23 +215,28 @@ impl<'a, R: AllocGlobal + Threads + Sync> TrialState<'a, R> {
     }
 
     // Whether the last run left this: status, by its name in the code, length of the output and report. Only a prefix
-    // of the output need come, as its length is stated. Wrong arguments, or a setting that can't be, must have been
-    // found before anything was read.
+    // of the output need come where its length is stated; else the whole one. Wrong arguments, or a setting that can't
+    // be, must have been found before anything was read.
     fn has_come(&self, wanted: &str) -> Option<()> {
-        let (status, rest) = wanted.split_once(", ")?;
-        let (length, report) = rest.split_once(": ")?;
+        let (ended, report) = wanted.split_once(": ").unwrap_or((wanted, "done"));
+        let (status, length) = match ended.split_once(", ") {
+            Some((status, length)) => (status, amount(length)?),
+            None => (ended, self.output.as_ref()?.len()),
+        };
         let left = &self.left;
+        // Where no text says the whole output it may be any.
+        let whole = self.output.as_ref().unwrap_or(&left.output);
         let name = format!(in self.alloc; "{:?}", left.status).ok()?;
         let mut lines = Vec::new(self.alloc);
-        add_lines(&mut lines, report)?;
+        add_lines(self.alloc, &mut lines, report)?;
         // A report that is cut off ends in `..`, and not in a line.
         let lines = lines.strip_suffix(b"..\n").unwrap_or(lines.as_slice());
         let has_begun = !matches!(left.status, Status::Usage | Status::Setting);
         is(
             name.as_str() == status
-                && (has_begun || left.read == 0)
-                && left.output.len() == amount(length)?
-                && is_prefix(&left.output, &self.output)
+                && (has_begun || left.watch.read.get() == 0)
+                && left.output.len() == length
+                && whole.starts_with(&left.output)
                 && left.report.as_slice() == lines,
         )
     }
@@ -235,44 +245,26 @@ impl<'a, R: AllocGlobal + Threads + Sync> TrialState<'a, R> {
     // is run, and what the twin leaves is what is kept.
     fn are_alike(&mut self, text: &str) -> Option<()> {
         let (words, others) = text.split_once(" = ")?;
-        self.put_words("run", words)?;
+        self.words = String::from_str(self.alloc, words).ok()?;
         self.go(0, SOUND)?;
-        run_over(
-            self.rt,
-            &OpenGate,
-            others,
-            &self.twin,
-            SOUND,
-            &mut self.kept,
-        )?;
+        let (twin, kept) = (&self.twin, &mut self.kept);
+        run_over(self.rt, &OpenGate, others, twin, SOUND, kept)?;
         self.left.is_same(&self.kept)
     }
 
-    // Whether this holds of what is kept: how much was read, the end of the output's last line, or else the SHA-256
-    // digest of the output, so that a whole one is compared with what it was when the test was written.
-    fn has(&self, verb: &str, rest: &str) -> Option<()> {
-        let output = self.kept.output.as_slice();
-        match verb {
-            "read" => is(self.kept.read == amount(rest)?),
+    // Whether this holds of what the last run left: how much was read, how the output ends, its SHA-256 digest, so that
+    // a whole one is compared with what it was when the test was written, or which bytes are there in it.
+    fn has(&self, fact: &str) -> Option<()> {
+        let (name, rest) = fact.split_once(": ")?;
+        let (output, bytes) = (&self.left.output, hex::decode(self.alloc, rest));
+        match name {
+            "read" => is(self.left.watch.read.get() == amount(rest)?),
             "last line" => is(output.strip_suffix(b"\n")?.ends_with(rest.as_bytes())),
+            "digest" => is(bytes.ok()?.as_slice() == Sha256::digest(output).as_slice()),
             _ => {
-                let wanted = hex::decode(self.alloc, rest).ok()?;
-                is(wanted.as_slice() == Sha256::digest(output).as_slice())
+                let at = amount(name.strip_prefix("at ")?)?;
+                is(output.get(at..)?.starts_with(&bytes.ok()?))
             }
         }
-    }
-
-    // Whether these bytes are in the output that is kept, from this byte on.
-    fn has_bytes(&self, at: usize, digits: &str) -> Option<()> {
-        let wanted = hex::decode(self.alloc, digits).ok()?;
-        is(self.kept.output.get(at..)?.starts_with(&wanted))
-    }
-}
-
-// Whether these bytes are the first ones of the whole output, which may be any where no text says it.
-fn is_prefix(bytes: &[u8], output: &Option<Vec<u8>>) -> bool {
-    match output {
-        Some(whole) => whole.starts_with(bytes),
-        None => true,
     }
 }

@@ -15,30 +15,22 @@ use std::thread::Threads;
 impl<'a, R: AllocGlobal + Threads + Sync> TrialState<'a, R> {
     /// `700 bytes a call`, which `, call 2 fails` may follow: what the streams of the next run do. Calls are counted
     /// from 0. The verb names the kind of the call that fails; so many bytes a call are for all streams. Without a
-    /// failing call the rest is as in `SOUND`.
+    /// failing call none fails, as in `SOUND`.
     pub fn set_plan(&mut self, verb: &str, text: &str) -> Option<()> {
-        let (step, rest) = text.split_once(" a call")?;
+        let (step, count) = match text.split_once(" a call, call ") {
+            Some((step, count)) => (step, number(count.strip_suffix(" fails")?)?),
+            None => (text.strip_suffix(" a call")?, SOUND.count),
+        };
         let (step, call) = (amount(step)?, call_of(verb)?);
-        self.plan = Plan { step, ..SOUND };
-        if !rest.is_empty() {
-            let count = rest.strip_prefix(", call ")?.strip_suffix(" fails")?;
-            let count = number(count)? as u64;
-            self.plan = Plan { step, call, count };
-        }
+        self.plan = Plan { step, call, count };
         Some(())
     }
 
     /// The runs leave the same where each stream moves so many bytes a call. Any steps would do: these are the least,
     /// two shorter than a sector, and one longer than a block as it is recorded.
     pub fn comes_in_pieces(&mut self) -> Option<()> {
-        for step in &[1, 7, 2047, 40_000] {
-            self.stays(
-                0,
-                Plan {
-                    step: *step,
-                    ..SOUND
-                },
-            )?;
+        for step in [1, 7, 2047, 40_000] {
+            self.stays(0, Plan { step, ..SOUND })?;
         }
         Some(())
     }
@@ -50,94 +42,70 @@ impl<'a, R: AllocGlobal + Threads + Sync> TrialState<'a, R> {
         for part in text.split(", ") {
             let (calls, part) = part.split_once(' ')?;
             let (call, step) = part.split_once(" of ")?;
-            let (calls, call, step) = (number(calls)? as u64, call_of(call)?, amount(step)?);
+            let (calls, call, step) = (number(calls)?, call_of(call)?, amount(step)?);
             for count in 0..calls {
                 self.go(0, Plan { step, call, count })?;
-                match call {
-                    Read => self.leaves_prefix_read()?,
-                    Write => self.leaves_prefix_written()?,
-                    _ => self.leaves_prefix_reported()?,
+                if call == Read {
+                    self.leaves_prefix(call, &self.over_what_it_read()?)?;
+                } else {
+                    self.leaves_prefix(call, &self.kept)?;
                 }
             }
-            self.stays(
-                0,
-                Plan {
-                    step,
-                    call,
-                    count: calls,
-                },
-            )?;
+            let count = calls;
+            self.stays(0, Plan { step, call, count })?;
         }
         Some(())
     }
 
-    // It left what a run over only the bytes that it read leaves, with the fault in place of the closing line. That run
-    // ends by its input's end, and how it closes doesn't count: one more line comes, whichever it is.
-    fn leaves_prefix_read(&self) -> Option<()> {
+    // What a run over only the bytes that the last one read leaves. It ends by its input's end.
+    fn over_what_it_read(&self) -> Option<Left> {
         let words = self.words.split(" or ").next()?;
-        let read = self.case.get(..self.left.read)?;
-        let (left, mut prefix) = (&self.left, Left::new(self.alloc));
-        run_over(self.rt, &OpenGate, words, read, SOUND, &mut prefix)?;
-        let lines = left.report.strip_suffix(b"read fault\n")?;
-        is(
-            left.status == Status::ReadFault
-                && prefix.status != Status::NoMemory
-                && left.output.as_slice() == prefix.output.as_slice()
-                && is_last_line(prefix.report.strip_prefix(lines)?),
-        )
+        let read = self.case.get(..self.left.watch.read.get())?;
+        let mut left = Left::new(self.alloc);
+        run_over(self.rt, &OpenGate, words, read, SOUND, &mut left)?;
+        is(left.status != Status::NoMemory)?;
+        Some(left)
     }
 
-    // It wrote a prefix, and reported some of the lines, not the last one, and then the fault. Whole lines: a line that
-    // was begun would be no line of the report.
-    fn leaves_prefix_written(&self) -> Option<()> {
-        let (left, kept) = (&self.left, &self.kept);
-        let lines = left.report.strip_suffix(b"write fault\n")?;
-        is(
-            left.status == Status::WriteFault
-                && kept.output.starts_with(&left.output)
-                && kept.report.starts_with(lines)
-                && lines.len() < kept.report.len()
-                && (lines.is_empty() || lines.ends_with(b"\n")),
-        )
-    }
-
-    // Its output and its report are prefixes. Where the closing line failed, all was written: what is missing of the
-    // report is then of one line alone. No line says the fault, as the report has failed.
-    fn leaves_prefix_reported(&self) -> Option<()> {
-        let (left, kept) = (&self.left, &self.kept);
-        let rest = kept.report.strip_prefix(left.report.as_slice())?;
-        is(
-            left.status == Status::ReportFault
-                && kept.output.starts_with(&left.output)
-                && (!is_last_line(rest) || kept.output.len() == left.output.len()),
-        )
+    // It left a prefix of what this whole run left, with the fault in place of the rest of the lines; where the report
+    // has failed, no line says the fault. After a failed read all is there but the closing line, whichever it is, since
+    // how the whole run closes doesn't count. After a failed write the lines are whole: one that was begun would be no
+    // line of the report. Where only the closing line wasn't reported, all was written.
+    fn leaves_prefix(&self, call: StreamCall, whole: &Left) -> Option<()> {
+        let left = &self.left;
+        let (status, fault) = match call {
+            Read => (Status::ReadFault, "read fault\n"),
+            Write => (Status::WriteFault, "write fault\n"),
+            _ => (Status::ReportFault, ""),
+        };
+        let lines = left.report.strip_suffix(fault.as_bytes())?;
+        let rest = whole.report.strip_prefix(lines)?;
+        let is_all = left.output.len() == whole.output.len();
+        let is_right = match call {
+            Read => is_all && is_last_line(rest),
+            Write => !rest.is_empty() && (lines.is_empty() || lines.ends_with(b"\n")),
+            _ => is_all || !is_last_line(rest),
+        };
+        is(is_right && left.status == status && whole.output.starts_with(&left.output))
     }
 
     /// `7 calls of 700 bytes`: nothing is tried again where one of the first 7 calls of a stream or of its flushes
-    /// fails, or the input ends before its last byte.
+    /// fails, or the input ends before its last byte; `run_over` tests that. A run that isn't done has to have a reason
+    /// for it: a call that failed, or the end of the input.
     pub fn stop_in_turn(&mut self, text: &str) -> Option<()> {
         let (calls, step) = text.split_once(" calls of ")?;
-        let (calls, step) = (number(calls)? as u64, amount(step)?);
-        for k in 0..self.words.split(" or ").count() {
-            for count in 0..calls {
-                for call in &[Read, Write, Flush, Report, FlushReport] {
-                    let call = *call;
-                    self.stops(k, Plan { step, call, count })?;
+        let (calls, step) = (number(calls)?, amount(step)?);
+        for length in [self.case.len(), self.case.len().saturating_sub(1)] {
+            let bytes = self.case.get(..length)?;
+            for words in self.words.split(" or ") {
+                for count in 0..calls {
+                    for call in [Read, Write, Flush, Report, FlushReport] {
+                        let plan = Plan { step, call, count };
+                        run_over(self.rt, &OpenGate, words, bytes, plan, &mut self.left)?;
+                        is(self.left.watch.has_stopped() || self.left.status == Status::Done)?;
+                    }
                 }
             }
-        }
-        Some(())
-    }
-
-    // Over all bytes of the case, and over all but the last one. `run_over` tests that nothing is tried again. A run
-    // that isn't done has to have a reason for it: a call that failed, or the end of the input.
-    fn stops(&mut self, k: usize, plan: Plan) -> Option<()> {
-        let words = self.words.split(" or ").nth(k)?;
-        let length = self.case.len();
-        for length in &[length, length.saturating_sub(1)] {
-            let prefix = self.case.get(..*length)?;
-            run_over(self.rt, &OpenGate, words, prefix, plan, &mut self.left)?;
-            is(self.left.has_stopped || self.left.status == Status::Done)?;
         }
         Some(())
     }

@@ -1,7 +1,7 @@
 //! Texts that don't hold: what is misspelt isn't passed over, and each part of what comes counts.
 use dvd_trial::{Held, fails};
 
-static FAILING: [&str; 22] = [
+static FAILING: [&str; 25] = [
     "given: 5 bytes of 00 | zeros: sector 0",
     "given: 1 block of 00 | zero: blok 2",
     "given: 1 block of 00 | zero: row 5 too 6",
@@ -15,18 +15,19 @@ static FAILING: [&str; 22] = [
     "given: nothing\nrun: x -> Done, 0 bytes: usage",
     "given: nothing\nrun: x -> Usage, 1 byte: usage",
     "given: nothing\nrun: x -> Usage, 0 bytes: usage..",
-    "given: 5 bytes of 00\nrun: master --sectors 16 \
--> Short, 0 bytes: short: block 0, 5 bytes\nread: 4 bytes",
+    "given: 5 bytes of 00\nrun: master --sectors 16 -> Short, 0 bytes: short: block 0, 5 bytes; read: 4 bytes",
     "given: nothing\nrun: x\nreads: 1 byte a call, cal 0 fails -> Usage, 0 bytes: usage",
-    "given: nothing\nrun: x -> Usage, 0 bytes: usage\nrun: cdread\ndigest: 00",
-    "given: image of 1 sector\noutput: image of 2 sectors\n\
-run: frames --first 030000 --sectors 1 -> Done, 2064 bytes: done",
-    "given: image of 1 sector\nrun: frames --first 030000 --sectors 1 -> Done, 2064 bytes: done\n\
+    "given: nothing\nrun: x -> Usage, 0 bytes: usage; digest: 00",
+    "given: image of 1 sector\nrun: frames --first 030000 --sectors 1 -> Done, 2064 bytes with image of 2 sectors",
+    "given: image of 1 sector\nrun: frames --first 030000 --sectors 1 -> Done",
+    "given: image of 1 sector\nrun: frames --first 030000 --sectors 1 -> Done, 2064 bytes\n\
 all fail in turn: 3 reads of 700 bytes",
     "given: {1, 2, 3} bytes of {00, 55}",
     "given: [1, 2, 3] bytes of [00, 55]",
     "given: 1 byte of 00 {",
     "given: nothing\nrun: {x, y} -> Usage, 0 bytes: {usage, none}",
+    "given: nothing\nrun: x -> Usage, 0 bytes: (usage, none)",
+    "name: one = byte of 00\ngiven: 1 <two>",
 ];
 
 #[test]

@@ -1,37 +1,26 @@
 //! The loops of `master` and `recover` called by themselves, over a disk of one layer with all of its zones: they
 //! record what the command does, and read it back. And a run whose output keeps nothing.
-ghost use Rattle.std.specs.Prelude.{◌≤◌};
+ghost use Rattle.std.specs.Prelude.{◌≤◌, IfSome};
 
 use dvd_block::{Block, Piece};
-use dvd_capture::{Form, Work};
-use dvd_layout::{Shape, Zones};
+use dvd_capture::Work;
 use dvd_par::OpenGate;
 use dvd_ports::{MemSink, NullSink, SliceSource};
-use dvd_top::{Command, LoopEnd, Settings, Status, master_loop, recover_loop, run};
+use dvd_top::{LoopEnd, Settings, Status, master_loop, recover_loop, run};
 use dvd_trial::{Held, bytes_of, words_of};
+use std::alloc::Global;
 use std::thread::Threads;
 
-// Settings of a disk of 17 sectors. The clause is what the loops require of the number of workers.
-fn settings(command: Command) -> Settings
-    ensures { (1 ≤ result.workers) × (result.workers ≤ 16) }
+// What the arguments ask for, where that is one worker, as without an option. The clause is what the loops require of
+// the number of workers.
+fn settings(alloc: Global, text: &str) -> Option<Settings>
+    ensures { IfSome result (λ settings. (1 ≤ settings.workers) × (settings.workers ≤ 16)) }
 {
-    Settings {
-        command,
-        first: 0,
-        sectors: 17,
-        sectors1: 0,
-        shape: Shape::Single,
-        zones: Zones::All,
-        initial: 0,
-        tail: 16,
-        cpr: [0; 6],
-        form: Form::Plain,
-        workers: 1,
-        seed: 0,
-        blocks: 0,
-        address: 0,
-        captures: 0,
-        frames: 0,
+    let settings = dvd_words::read(alloc, &words_of(alloc, text)?).ok()?;
+    if settings.workers == 1 {
+        Some(settings)
+    } else {
+        None
     }
 }
 
@@ -40,7 +29,7 @@ fn master<R: AllocGlobal + Threads + Sync>(
     image: &[u8],
     output: &mut MemSink,
 ) -> Option<LoopEnd> {
-    let settings = settings(Command::Master);
+    let settings = settings(rt.alloc(), "master --sectors 17 --zones all")?;
     let layout = settings.layout().ok()?;
     let mut block = Block::new(rt.alloc()).ok()?;
     let mut piece = Piece::new(rt.alloc()).ok()?;
@@ -58,27 +47,18 @@ fn recover<R: AllocGlobal + Threads + Sync>(
     output: &mut MemSink,
     report: &mut MemSink,
 ) -> Option<LoopEnd> {
-    let settings = settings(Command::Recover);
+    let settings = settings(rt.alloc(), "recover --sectors 17 --zones all")?;
     let layout = settings.layout().ok()?;
+    let source = &mut SliceSource::new(disk);
     Some(recover_loop(
-        rt,
-        &settings,
-        &layout,
-        &OpenGate,
-        work,
-        &mut SliceSource::new(disk),
-        output,
-        report,
+        rt, &settings, &layout, &OpenGate, work, source, output, report,
     ))
 }
 
 // The same status and report as of an output that keeps all.
 fn recovers_to_nothing<R: AllocGlobal + Threads + Sync>(rt: &R) -> Option<bool> {
     let words = words_of(rt.alloc(), "recover --sectors 17")?;
-    let disk = bytes_of(
-        rt,
-        "image of 17 sectors | master --sectors 17 makes 2 blocks",
-    )?;
+    let disk = bytes_of(rt, "image of 17 sectors | recorded")?;
     let source = &mut SliceSource::new(&disk);
     let mut report = MemSink::new(rt.alloc(), 80, 80, Vec::new(rt.alloc())).ok()?;
     let (sink, lines) = (&mut NullSink::new(), &mut report);

@@ -3,78 +3,58 @@
 use dvd_trial::{Held, hold};
 
 const SURVEYS: &str = "
-given: image of 16 sectors | master --sectors 16 makes 1 block
+given: image of 16 sectors | recorded
 run: survey --sectors 16
-output: lines block 0 sector 030000 layer 0 pi 0 failed 0 sum8 0: whole/\
+=> Done with lines block 0 sector 030000 layer 0 pi 0 failed 0 sum8 0: whole/\
 blocks 1 pi 0 failed 0 damaged 0 peak 0 at 0 over 0
-=> Done, 110 bytes: done
 all fail in turn: 9 reads of 5000 bytes, 4 writes of 50 bytes, 3 reports of 2 bytes
-run: survey --sectors 17
--> Short, 58 bytes: short: block 1, 0 bytes
-run: survey --sectors 16 --form marked
--> Short, 0 bytes: short: block 0, 37856 bytes
+run: survey --sectors 17                -> Short, 58 bytes: short: block 1, 0 bytes
+run: survey --sectors 16 --form marked  -> Short, 0 bytes: short: block 0, 37856 bytes
 
 # Zeros, which have no errors and no address.
 given: 1 block of 00
 run: survey --sectors 16
 output: lines block 0 sector 030000 layer 0 pi 0 failed 0 sum8 0: address 0 found 00000000/\
 blocks 1 pi 0 failed 0 damaged 1 peak 0 at 0 over 0
-                         -> Damaged, 129 bytes: damaged: 1 blocks
-case: then 1 byte of 00  -> Long, 129 bytes: long
+                         -> Damaged: damaged: 1 blocks
+case: then 1 byte of 00  -> Long: long
 
 # A row with a mark has an error: 141 rows of each block, and 140.
-given: image of 32 sectors | master --sectors 32 makes 2 blocks | marked
+given: image of 32 sectors | recorded | marked
 run: survey --sectors 32 --form marked
-output: lines block 0 sector 030000 layer 0 pi 141 failed 0 sum8 141: whole/\
-block 1 sector 030010 layer 0 pi 141 failed 0 sum8 282: whole/\
+case: doubtful by 00: rows 0 to 140, byte 0 -> Done with lines \
+block (0, 1) sector 0300(0, 1)0 layer 0 pi 141 failed 0 sum8 (141, 282): whole/\
 blocks 2 pi 282 failed 0 damaged 0 peak 282 at 1 over 1
-case: doubtful by 00: rows 0 to 140, byte 0  -> Done, 180 bytes: done
-output: lines block 0 sector 030000 layer 0 pi 140 failed 0 sum8 140: whole/\
-block 1 sector 030010 layer 0 pi 140 failed 0 sum8 280: whole/\
+case: doubtful by 00: rows 0 to 139, byte 0 -> Done with lines \
+block (0, 1) sector 0300(0, 1)0 layer 0 pi 140 failed 0 sum8 (140, 280): whole/\
 blocks 2 pi 280 failed 0 damaged 0 peak 280 at 1 over 0
-case: doubtful by 00: rows 0 to 139, byte 0  -> Done, 180 bytes: done
 
 # A burst over three blocks, of which 90, 208 and 45 rows have a wrong byte, is seen by eight blocks each.
-given: image of 192 sectors | master --sectors 192 makes 12 blocks | \
-wrong by FF: block 2, rows 0 to 89, byte 0 shifted 1; block 3, rows 0 to 207, byte 0 shifted 1; \
-block 4, rows 0 to 44, byte 0 shifted 1
+given: image of 192 sectors | recorded | wrong by FF: block 2, rows 0 to 89, byte 0 shifted 1; \
+block 3, rows 0 to 207, byte 0 shifted 1; block 4, rows 0 to 44, byte 0 shifted 1
 run: survey --sectors 192
-output: lines block 0 sector 030000 layer 0 pi 0 failed 0 sum8 0: whole/\
-block 1 sector 030010 layer 0 pi 0 failed 0 sum8 0: whole/\
-block 2 sector 030020 layer 0 pi 90 failed 0 sum8 90: whole/\
-block 3 sector 030030 layer 0 pi 208 failed 0 sum8 298: whole/\
-block 4 sector 030040 layer 0 pi 45 failed 0 sum8 343: whole/\
-block 5 sector 030050 layer 0 pi 0 failed 0 sum8 343: whole/\
-block 6 sector 030060 layer 0 pi 0 failed 0 sum8 343: whole/\
-block 7 sector 030070 layer 0 pi 0 failed 0 sum8 343: whole/\
-block 8 sector 030080 layer 0 pi 0 failed 0 sum8 343: whole/\
-block 9 sector 030090 layer 0 pi 0 failed 0 sum8 343: whole/\
-block 10 sector 0300A0 layer 0 pi 0 failed 0 sum8 253: whole/\
-block 11 sector 0300B0 layer 0 pi 0 failed 0 sum8 45: whole/\
+-> Done with lines block (0 to 11) sector 0300(0, 1, 2, 3, 4, 5, 6, 7, 8, 9, A, B)0 layer 0 \
+pi (0, 0, 90, 208, 45, 0, 0, 0, 0, 0, 0, 0) failed 0 \
+sum8 (0, 0, 90, 298, 343, 343, 343, 343, 343, 343, 253, 45): whole/\
 blocks 12 pi 343 failed 0 damaged 0 peak 343 at 4 over 7
--> Done, 777 bytes: done
 
 # The totals of a disk of two layers with every zone.
-given: image of 21 sectors | \
-master --sectors 16 --sectors1 5 --shape opposite --zones all --tail 1 makes 261 blocks
-run: survey --sectors 16 --sectors1 5 --shape opposite --zones all --tail 1
--> Done, 15604 bytes: done
-last line: blocks 261 pi 0 failed 0 damaged 0 peak 0 at 0 over 0
+name: disk = --sectors 16 --sectors1 5 --shape opposite --zones all --tail 1
+given: image of 21 sectors | master <disk> makes 261 blocks
+run: survey <disk> -> Done, 15604 bytes; last line: blocks 261 pi 0 failed 0 damaged 0 peak 0 at 0 over 0
 
 # A disk of 528 blocks as a rescuer meets it: a burst over forty blocks, of which marked rows are lost, and wrong
 # bytes in every eighth row of all others, which nothing marks. The SHA-256 is of the lines, which another program
 # wrote from the numbers of the rows that were damaged. The peak is 26 wrong rows in each of eight blocks.
+name: marked = --sectors 4096 --zones all --form marked
 given: image of 4096 sectors | master --sectors 4096 --zones all makes 528 blocks | \
 wrong by FF: blocks 0 to 299, rows 0 to 200 step 8, bytes 0 to 2; \
 blocks 340 to 527, rows 0 to 200 step 8, bytes 0 to 2 | marked | lost: blocks 300 to 339, rows 0 to 11
-run: survey --sectors 4096 --zones all --form marked or survey --sectors 4096 --zones all --form marked --workers 8
--> Done, 33220 bytes: done
-digest: 21FC8EF85675D34802E960E8B3CAA70E8B715DCED28C83B94AEDEEB6A4623CEF
+run: survey <marked> or survey <marked> --workers 8
+-> Done, 33220 bytes; digest: 21FC8EF85675D34802E960E8B3CAA70E8B715DCED28C83B94AEDEEB6A4623CEF; \
 last line: blocks 528 pi 13168 failed 480 damaged 0 peak 208 at 7 over 0
 # All of it is read back.
-run: recover --sectors 4096 --zones all --form marked or recover --sectors 4096 --zones all --form marked --workers 8
-output: image of 4096 sectors
--> Done, 4096 sectors: done
+run: recover <marked> or recover <marked> --workers 8 -> Done with image of 4096 sectors
 ";
 
 #[test]
