@@ -26,8 +26,8 @@ counted_in line =
     if is_text (codes "done") line then Some 0 else number_between (codes "damaged: ") (codes " blocks") line
 
 -- the number after the first text, if a further number is between the two others
-abbrev pub block_in : List ℕ → List ℕ → List ℕ → List ℕ → Option ℕ
-block_in first middle last line =
+abbrev pub number_before : List ℕ → List ℕ → List ℕ → List ℕ → Option ℕ
+number_before first middle last line =
     option_and_then (λ found. option_map (λ more. found.0) (number_between middle last found.1)) (option_and_then number_first (without_prefix first line))
 
 -- the first of two numbers, if there is one
@@ -38,7 +38,7 @@ or_other None other = other
 -- the block in which the run stopped: the capture ended there, or its marks break a rule
 abbrev pub stopped_in : List ℕ → Option ℕ
 stopped_in line =
-    or_other (block_in (codes "short: block ") (codes ", ") (codes " bytes") line) (block_in (codes "bad marks: block ") (codes ", byte ") (codes "") line)
+    or_other (number_before (codes "short: block ") (codes ", ") (codes " bytes") line) (number_before (codes "bad marks: block ") (codes ", byte ") (codes "") line)
 
 -- The run stopped in block k: the image sectors of the blocks before it were written.
 abbrev pub stopped_at : Layout → Zones → ℕ → Result Said ReportCause

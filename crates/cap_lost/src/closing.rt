@@ -7,7 +7,7 @@
 ghost use Rattle.std.specs.Prelude.{◌≡◌, ◌<◌, length, take, IfOk, IfSome, IfNone};
 ghost use Rattle.dvd_layout.specs.Place.{image_before, image_sectors};
 ghost use Rattle.dvd_layout.specs.Plan.{plan_of};
-ghost use Rattle.cap_lost.specs.Closings.{block_in, closing_said, counted_in, is_fault, number_between, stopped_at, stopped_in};
+ghost use Rattle.cap_lost.specs.Closings.{number_before, closing_said, counted_in, is_fault, number_between, stopped_at, stopped_in};
 ghost use Rattle.cap_lost.specs.Inner.{NamesSectors};
 
 use crate::draft::Said;
@@ -82,16 +82,16 @@ fn number_between(line: &[u8], first: &[u8], last: &[u8]) -> Option<u64>
 fn stopped_in(line: &[u8]) -> Option<u64>
     ensures { result ≡ stopped_in line.now }
 {
-    match block_in(line, b"short: block ", b", ", b" bytes") {
+    match number_before(line, b"short: block ", b", ", b" bytes") {
         Some(k) => Some(k),
-        None => block_in(line, b"bad marks: block ", b", byte ", b""),
+        None => number_before(line, b"bad marks: block ", b", byte ", b""),
     }
 }
 
 // The number after the first text, if a further number is between the two others. That one counts bytes and isn't used:
 // it may be any.
-fn block_in(line: &[u8], first: &[u8], middle: &[u8], last: &[u8]) -> Option<u64>
-    ensures { result ≡ block_in first.now middle.now last.now line.now }
+fn number_before(line: &[u8], first: &[u8], middle: &[u8], last: &[u8]) -> Option<u64>
+    ensures { result ≡ number_before first.now middle.now last.now line.now }
 {
     let (k, rest) = number_first(without_prefix(line, first)?)?;
     number_between(rest, middle, last)?;
