@@ -1,36 +1,14 @@
-//! The parity of drawn words, as two others computed it: a program that solves the parity checks as linear equations
-//! and uses no generator, and the encoder of one word. Also values, products and powers as they are without vectors.
+//! The parity of drawn words, as the encoder of one word computes it. Also values, products and powers as they are
+//! without vectors.
 ghost use Rattle.std.specs.Prelude.{◌≡◌, ◌<◌, ◌≤◌, length, vec_len, IfOk};
 
 use crate::{any_of, column_values, inner_parity, outer_parity, powers, row_values, scaled};
+use rand_xoshiro::SplitMix64;
+use rand_xoshiro::rand_core::{Rng, SeedableRng};
 use rs_code::{Pi, Po};
-use sha2::{Digest, Sha256};
 use std::alloc::{AllocError, Global};
 use std::simd::prelude::*;
 use std::test::Fail;
-
-/// Drawn bytes: each is the top eight bits of a state of 64 bits, to which three shifts of itself were added.
-/// With shifts by 13, 7 and 17 all states but 0 come before one comes again; the first is any of them. The other
-/// program draws the same.
-#[derive(Drop)]
-struct Drawn {
-    state: u64,
-}
-
-impl Drawn {
-    fn byte(&mut self) -> u8 {
-        self.state ^= self.state << 13;
-        self.state ^= self.state >> 7;
-        self.state ^= self.state << 17;
-        self.state.to_be_bytes()[0]
-    }
-
-    fn fill_first(&mut self, bytes: &mut [u8], count: usize) {
-        for byte in bytes.iter_mut().take(count) {
-            *byte = self.byte();
-        }
-    }
-}
 
 // Rows of zeros.
 fn empty_rows(alloc: Global, count: usize) -> Result<Vec<[u8; 182]>, AllocError>
@@ -39,19 +17,14 @@ fn empty_rows(alloc: Global, count: usize) -> Result<Vec<[u8; 182]>, AllocError>
     vec![in alloc; [0; 182]; count]
 }
 
-// Rows whose first `size` bytes are drawn, and then zeros.
-fn drawn_rows(
-    alloc: Global,
-    count: usize,
-    state: u64,
-    size: usize,
-) -> Result<Vec<[u8; 182]>, AllocError>
+// Rows of drawn bytes.
+fn drawn_rows(alloc: Global, count: usize, seed: u64) -> Result<Vec<[u8; 182]>, AllocError>
     ensures { IfOk result (λ rows. vec_len rows ≡ count) }
 {
     let mut rows = empty_rows(alloc, count)?;
-    let mut drawn = Drawn { state };
+    let mut drawn = SplitMix64::seed_from_u64(seed);
     for row in rows.iter_mut() {
-        drawn.fill_first(row, size);
+        drawn.fill_bytes(&mut row[..]);
     }
     Ok(rows)
 }
@@ -65,15 +38,6 @@ fn put_byte(rows: &mut [[u8; 182]], i: usize, j: usize, byte: u8)
     rows[i][j] = byte;
 }
 
-// Sets column `j` to a word, as far as there are rows for it.
-fn put_column(rows: &mut [[u8; 182]], j: usize, word: &[u8; 208])
-    requires { j < 182 }
-{
-    for (row, byte) in rows.iter_mut().zip(word) {
-        row[j] = *byte;
-    }
-}
-
 // Column `j`, as far as there are rows, and zeros for the others.
 fn column(rows: &[[u8; 182]], j: usize) -> [u8; 208]
     requires { j < 182 }
@@ -83,26 +47,6 @@ fn column(rows: &[[u8; 182]], j: usize) -> [u8; 208]
         *byte = row[j];
     }
     word
-}
-
-// The digest of the inner parity of all rows, one after the other, as the other program has it for these words.
-fn parity_of_rows(rows: &[[u8; 182]]) -> [u8; 32] {
-    let mut hasher = Sha256::new();
-    for row in rows {
-        hasher.update(&row[172..]);
-    }
-    hasher.finalize()
-}
-
-// The digest of the outer parity of the first `count` columns, likewise.
-fn parity_of_columns(rows: &[[u8; 182]], count: usize) -> [u8; 32]
-    requires { count ≤ 182 }
-{
-    let mut hasher = Sha256::new();
-    for j in 0..count {
-        hasher.update(&column(rows, j)[192..]);
-    }
-    hasher.finalize()
 }
 
 // Whether lane `n` of the vectors has these bytes.
@@ -127,69 +71,49 @@ fn is_alone(lanes: u8x32, n: usize) -> bool {
 
 #[test]
 fn rows_get_the_parity_of_drawn_words(rt: HostRuntime) -> Result<(), Fail> {
-    let mut rows = drawn_rows(rt.alloc(), 100, 2, 172)?;
-    let mut encoded = rows[99];
-    Pi::new().encode(&mut encoded);
+    let mut rows = drawn_rows(rt.alloc(), 100, 2)?;
+    let mut encoded = rows.clone()?;
+    for row in encoded.iter_mut() {
+        Pi::new().encode(row);
+    }
     inner_parity(&mut rows, 0);
     inner_parity(&mut rows, 32);
     inner_parity(&mut rows, 64);
     // Row 99 is in none of these groups. The last 32 rows share some with the group before.
-    assert!(rt; rows[99] != encoded);
+    assert!(rt; rows[99] != encoded[99]);
     inner_parity(&mut rows, 68);
-    assert!(rt; rows[99] == encoded);
-    assert_eq!(rt;
-        parity_of_rows(&rows),
-        *b"\x27\xD5\xDA\x99\xDE\x4A\xA7\x92\x32\xBD\x17\x8F\x9F\x4A\x7E\x2B\xCE\x3C\x43\xE8\x90\x9A\x2B\x7E\x53\xA1\x72\xB8\x8E\x5D\x19\x7B"
-    );
-    Ok(())
-}
-
-#[test]
-fn rows_have_the_values_of_drawn_words(rt: HostRuntime) -> Result<(), Fail> {
-    let mut rows = drawn_rows(rt.alloc(), 40, 5, 182)?;
-    // A group may begin at any row.
-    let values = row_values(&rows, 7);
-    for n in 0..32 {
-        let syndromes = Pi::new().syndromes(&rows[7 + n]);
-        assert!(rt; lane_has(&values, n, &syndromes), "at {n}");
-    }
-    inner_parity(&mut rows, 7);
+    assert!(rt; rows == encoded);
     assert!(rt; any_of(&row_values(&rows, 7)) == u8x32::splat(0));
     Ok(())
 }
 
 #[test]
 fn columns_get_the_parity_of_drawn_words(rt: HostRuntime) -> Result<(), Fail> {
-    let mut rows = empty_rows(rt.alloc(), 208)?;
-    let mut drawn = Drawn { state: 3 };
-    for j in 0..100 {
-        let mut word = [0; 208];
-        drawn.fill_first(&mut word, 192);
-        put_column(&mut rows, j, &word);
-    }
-    let mut encoded = column(&rows, 99);
-    Po::new().encode(&mut encoded);
+    let mut rows = drawn_rows(rt.alloc(), 208, 3)?;
+    let drawn = rows.clone()?;
     let (upper, lower) = rows.split_at_mut(192);
     outer_parity(upper, lower);
-    assert!(rt; column(&rows, 99) == encoded);
-    assert_eq!(rt;
-        parity_of_columns(&rows, 100),
-        *b"\xDE\x6E\x4C\x02\x0E\x93\x0A\x1D\x8C\xA3\x93\x6C\x57\xC4\x4C\x86\xC2\x40\x22\x59\x13\x22\x41\x9B\x14\x9B\xCF\x3F\x24\x71\xE3\xB7"
-    );
+    for j in 0..182 {
+        let mut encoded = column(&drawn, j);
+        Po::new().encode(&mut encoded);
+        assert!(rt; column(&rows, j) == encoded, "at {j}");
+    }
+    assert!(rt; any_of(&column_values(&rows, 150)) == u8x32::splat(0));
     Ok(())
 }
 
 #[test]
-fn columns_have_the_values_of_drawn_words(rt: HostRuntime) -> Result<(), Fail> {
-    let mut rows = drawn_rows(rt.alloc(), 208, 6, 182)?;
-    let values = column_values(&rows, 150);
+fn vectors_have_the_values_of_drawn_words(rt: HostRuntime) -> Result<(), Fail> {
+    let rows = drawn_rows(rt.alloc(), 208, 5)?;
+    // A group may begin at any row, and at any column.
+    let of_rows = row_values(&rows, 7);
+    let of_columns = column_values(&rows, 150);
     for n in 0..32 {
-        let syndromes = Po::new().syndromes(&column(&rows, 150 + n));
-        assert!(rt; lane_has(&values, n, &syndromes), "at {n}");
+        let row = Pi::new().syndromes(&rows[7 + n]);
+        let column = Po::new().syndromes(&column(&rows, 150 + n));
+        assert!(rt; lane_has(&of_rows, n, &row), "row {n}");
+        assert!(rt; lane_has(&of_columns, n, &column), "column {n}");
     }
-    let (upper, lower) = rows.split_at_mut(192);
-    outer_parity(upper, lower);
-    assert!(rt; any_of(&column_values(&rows, 150)) == u8x32::splat(0));
     Ok(())
 }
 
