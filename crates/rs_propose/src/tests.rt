@@ -3,47 +3,26 @@
 ghost use Rattle.std.specs.Prelude.{◌<◌, ◌≤◌};
 
 use crate::Proposals;
+use rand_xoshiro::SplitMix64;
+use rand_xoshiro::rand_core::{Rng, SeedableRng};
 use rs_code::Pi;
 use rs_decode::decode;
 use rs_lanes::row_values;
 
-/// Drawn numbers: each is a state of 64 bits, to which three shifts of itself were added.
-/// With shifts by 13, 7 and 17 all states but 0 come before one comes again; the first is any of them.
-#[derive(Drop)]
-struct Drawn {
-    state: u64,
-}
-
-impl Drawn {
-    fn byte(&mut self) -> u8 {
-        self.state ^= self.state << 13;
-        self.state ^= self.state >> 7;
-        self.state ^= self.state << 17;
-        self.state.to_be_bytes()[0]
-    }
-
-    fn fill(&mut self, bytes: &mut [u8; 182]) {
-        for byte in bytes.iter_mut() {
-            *byte = self.byte();
-        }
-    }
-
-    /// Adds bytes at `count` drawn places, some of which may be the same.
-    fn damage(&mut self, row: &mut [u8; 182], count: usize) {
-        for _k in 0..count {
-            let place = (usize::from(self.byte()) + usize::from(self.byte())) % 182;
-            row[place] ^= self.byte() | 1;
-        }
-    }
-}
-
 /// 32 drawn codewords.
-fn draw_rows(drawn: &mut Drawn, rows: &mut [[u8; 182]; 32]) {
+fn drawn_rows(drawn: &mut SplitMix64) -> [[u8; 182]; 32] {
     let code = Pi::new();
+    let mut rows = [[0; 182]; 32];
     for row in rows.iter_mut() {
-        drawn.fill(row);
+        drawn.fill_bytes(&mut row[..]);
         code.encode(row);
     }
+    rows
+}
+
+/// A drawn byte that isn't 0: what an error adds.
+fn drawn_error(drawn: &mut SplitMix64) -> u8 {
+    drawn.next_u64().to_be_bytes()[0] | 1
 }
 
 /// Whether the proposal for row `n` is believed exactly where the row has an answer, and gives that answer.
@@ -72,40 +51,43 @@ fn first_refused(received: &[[u8; 182]; 32]) -> Option<usize> {
     None
 }
 
-#[test]
-fn believes_what_is_proposed_for_up_to_five_errors(rt: HostRuntime) {
-    let mut drawn = Drawn { state: 1 };
-    let mut rows = [[0; 182]; 32];
-    for round in 0..20usize {
-        draw_rows(&mut drawn, &mut rows);
-        for n in 0..32usize {
-            drawn.damage(&mut rows[n], (round + n) % 6);
+/// The first of 32 drawn rows where it isn't so. Each has `fewest` to `most` errors at drawn places, some of which may
+/// be the same.
+fn first_refused_with(drawn: &mut SplitMix64, fewest: u64, most: u64) -> Option<usize>
+    requires some { fewest ≤ most }
+    requires few { most ≤ 182 }
+{
+    let mut rows = drawn_rows(drawn);
+    for row in rows.iter_mut() {
+        for _k in 0..fewest + drawn.next_u64() % (most - fewest + 1) {
+            row[(drawn.next_u64() % 182) as usize] ^= drawn_error(drawn);
         }
-        assert_eq!(rt; first_refused(&rows), None, "in round {round}");
+    }
+    first_refused(&rows)
+}
+
+/// With up to five errors a row has an answer. With more it seldom has one, and is then decoded by itself.
+#[test]
+fn believes_what_is_proposed_where_decoding_has_an_answer(rt: HostRuntime) {
+    let mut drawn = SplitMix64::seed_from_u64(1);
+    for (rounds, fewest, most) in [(20, 0, 5), (8, 6, 25)] {
+        for round in 0..rounds {
+            assert_eq!(rt;
+                first_refused_with(&mut drawn, fewest, most),
+                None,
+                "with {fewest} to {most} errors in round {round}"
+            );
+        }
     }
 }
 
 #[test]
 fn believes_what_is_proposed_for_each_place(rt: HostRuntime) {
-    let mut drawn = Drawn { state: 2 };
-    let mut rows = [[0; 182]; 32];
+    let mut drawn = SplitMix64::seed_from_u64(2);
     for round in 0..6usize {
-        draw_rows(&mut drawn, &mut rows);
+        let mut rows = drawn_rows(&mut drawn);
         for n in 0..32usize {
-            rows[n][(32 * round + n) % 182] ^= drawn.byte() | 1;
-        }
-        assert_eq!(rt; first_refused(&rows), None, "in round {round}");
-    }
-}
-
-#[test]
-fn answers_rows_with_more_errors_as_they_are_decoded(rt: HostRuntime) {
-    let mut drawn = Drawn { state: 3 };
-    let mut rows = [[0; 182]; 32];
-    for round in 0..8usize {
-        draw_rows(&mut drawn, &mut rows);
-        for n in 0..32usize {
-            drawn.damage(&mut rows[n], 6 + (round + n) % 20);
+            rows[n][(32 * round + n) % 182] ^= drawn_error(&mut drawn);
         }
         assert_eq!(rt; first_refused(&rows), None, "in round {round}");
     }
