@@ -1,4 +1,5 @@
-//! Both passes, by the plain call and with several workers, over blocks whose answers were worked out from the standard.
+//! Both passes, by the plain call and with several workers, over blocks whose answers were worked out from the
+//! standard.
 use crate::tests::{decode, put};
 use dvd_block::Block;
 use dvd_capture::Work;

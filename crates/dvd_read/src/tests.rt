@@ -1,6 +1,6 @@
 //! Worked values from outside the program. Blocks of which no frame is read are in dvd_par, by the plain call too.
-//! Helpers without a contract test what a call requires of them, a stage or a row of the block: where that doesn't hold,
-//! they do nothing or answer `None`. Products wrap where nothing bounds them.
+//! Helpers without a contract test what a call requires of them, a stage or a row of the block: where that doesn't
+//! hold, they do nothing or answer `None`. Products wrap where nothing bounds them.
 use crate::{Cause, Fixed, read_block, salvage, sectors, two_pass};
 use dvd_block::Block;
 use dvd_capture::{Stage, Work};

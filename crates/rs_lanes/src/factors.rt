@@ -16,8 +16,8 @@ macro_rules! rows {
     };
 }
 
-// For each byte its products with the sixteen low nibbles, the first in the lowest byte of a number. A product is linear
-// in each of its factors, so that the numbers of eight bytes span the table.
+// For each byte its products with the sixteen low nibbles, the first in the lowest byte of a number. A product is
+// linear in each of its factors, so that the numbers of eight bytes span the table.
 static LOW_PRODUCTS: [u128; 256] = sums!([0]
     0x0F0E0D0C0B0A09080706050403020100 0x1E1C1A18161412100E0C0A0806040200
     0x3C3834302C2824201C1814100C080400 0x78706860585048403830282018100800
