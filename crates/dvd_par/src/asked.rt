@@ -59,10 +59,12 @@ const ASKED: [(u8, u64); 5] = [
 #[test]
 fn each_piece_of_both_passes_is_asked_for_once_a_pass(rt: HostRuntime) -> Result<(), Fail> {
     for (workers, digits) in ASKED {
-        // Eight rows are bad, from row 3 on, thirteen apart. Any others would do, up to sixteen: if more failed, there
-        // would be no second pass.
+        // Eight rows are bad, from row 3 on, thirteen apart, and none is lost. Any others would do, up to sixteen:
+        // if more failed, there would be no second pass.
         let mut work = received(rt.alloc(), 3, 13, 8, 0)?;
         let gate = Counting::new();
+        // The call requires this stage, which `received` leaves without a clause that says so. What it answers doesn't
+        // count here: the gate is looked at.
         if work.stage() == Stage::Fetched {
             two_pass_par(&rt, workers, &gate, &mut work).is_ok();
         }
