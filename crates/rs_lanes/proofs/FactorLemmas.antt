@@ -1,8 +1,6 @@
 -- The tables for sixteen points, found right by computing them.
-use Rattle.std.proofs.Common.{◌≡◌, ℕ, ◌*◌, ◌%◌, ◌<◌, List, [], ◌∷◌, length, get_or, map, refl, sym, ap, ◌∙◌, arith}
-use Rattle.std.specs.Int.{to_le_bytes, w128}
+use Rattle.std.proofs.Common.{◌≡◌, ℕ, ◌*◌, ◌%◌, ◌<◌, List, [], ◌∷◌, get_or, map, refl, ap, ◌∙◌, arith}
 use Rattle.std.specs.List.{range_with_len}
-use Rattle.std.proofs.lemmas.List.{get_or-map}
 use Rattle.std.proofs.lemmas.List.FromFn.{get_or-map-range_with_len}
 use Rattle.coding.specs.Field.{alpha, shift, shifted, partial_product, product, power}
 use Rattle.gf_field.specs.declared.powers.TheConstants.{POWERS as powers_of_alpha}
@@ -20,31 +18,24 @@ unfoldable high_products : ℕ → List ℕ
 high_products factor = map (λ n. product (16 * n) factor) (range_with_len 0 16)
 
 -- those of each byte
-LOW-made : map (to_le_bytes w128) LOW_PRODUCTS ≡ map low_products (range_with_len 0 256)
+LOW-made : LOW_PRODUCTS ≡ map low_products (range_with_len 0 256)
 unfolding low_products product partial_product shifted shift
 LOW-made = refl
 
-HIGH-made : map (to_le_bytes w128) HIGH_PRODUCTS ≡ map high_products (range_with_len 0 256)
+HIGH-made : HIGH_PRODUCTS ≡ map high_products (range_with_len 0 256)
 unfolding high_products product partial_product shifted shift
 HIGH-made = refl
 
--- the bytes of a number of such a table
-products-at : (products : ℕ → List ℕ) (table : List ℕ) (factor : ℕ) → length table ≡ 256 → map (to_le_bytes w128) table ≡ map products (range_with_len 0 256)
-    → factor < 256 → to_le_bytes w128 (get_or table factor 0) ≡ products factor
-products-at products table factor size made byte =
-    sym (get_or-map (to_le_bytes w128) table factor 0 [] (omega arith)) ∙ ap (λ rows. get_or rows factor []) made
-    ∙ get_or-map-range_with_len products 0 256 factor factor [] byte (omega arith)
-
 -- so the rows of a byte are a table of it
-pub IsTable-products : (factor : ℕ) (low high : List ℕ) → factor < 256
-    → low ≡ to_le_bytes w128 (get_or LOW_PRODUCTS factor 0) → high ≡ to_le_bytes w128 (get_or HIGH_PRODUCTS factor 0) → IsTable factor (low ∷ high ∷ [])
+pub IsTable-products : (factor : ℕ) (low high : List ℕ) → factor < 256 → low ≡ get_or LOW_PRODUCTS factor [] → high ≡ get_or HIGH_PRODUCTS factor []
+    → IsTable factor (low ∷ high ∷ [])
 unfolding low_products high_products
 IsTable-products factor low high byte is_low is_high = record {
   low = λ n below.
-      ap (λ row. get_or row n 0) (is_low ∙ products-at low_products LOW_PRODUCTS factor refl LOW-made byte)
+      ap (λ row. get_or row n 0) (is_low ∙ ap (λ made. get_or made factor []) LOW-made ∙ get_or-map-range_with_len low_products 0 256 factor factor [] byte (omega arith))
       ∙ get_or-map-range_with_len (λ m. product m factor) 0 16 n n 0 below (omega arith);
   high = λ n below.
-      ap (λ row. get_or row n 0) (is_high ∙ products-at high_products HIGH_PRODUCTS factor refl HIGH-made byte)
+      ap (λ row. get_or row n 0) (is_high ∙ ap (λ made. get_or made factor []) HIGH-made ∙ get_or-map-range_with_len high_products 0 256 factor factor [] byte (omega arith))
       ∙ get_or-map-range_with_len (λ m. product (16 * m) factor) 0 16 n n 0 below (omega arith);
 }
 
