@@ -1,24 +1,18 @@
 //! Numbers, amounts of bytes and lists of numbers, and texts that have a value for each of several cases.
 //! A text may have any number, so sums and products are checked or stop at the largest number: nothing overflows.
-//!
-//! This crate is for tests alone, so its functions have no clauses. None as an answer is a text that isn't of the form,
-//! or want of memory; the test fails by it. A text is written by hand, and so a form has no more than tests need.
 use std::alloc::Global;
 
-/// The bytes of a row, and of a row with its 23 bytes of marks, a bit for each byte. They are here since the crate
-/// depends on none that has them.
+/// The bytes of a row, of one with 23 bytes of marks, a bit for each byte, and of a block of 208 rows without marks.
+/// They are here since the crate depends on none that has them.
 pub const ROW_BYTES: usize = 182;
 
 pub const MARKED_ROW_BYTES: usize = 205;
 
-/// The bytes of a block, as it is recorded, and of one in the marked form: 208 rows.
 pub const BLOCK_BYTES: usize = 37_856;
-
-pub const MARKED_BLOCK_BYTES: usize = 42_640;
 
 /// Whether this holds, as an answer for `?`: so a line ends in one way where a thing doesn't hold or can't be read.
 pub fn is(holds: bool) -> Option<()> {
-    if holds { Some(()) } else { None }
+    holds.then_some(())
 }
 
 /// A number, of decimal digits without commas.
@@ -26,34 +20,24 @@ pub fn number(text: &str) -> Option<usize> {
     text.parse::<usize>().ok()
 }
 
-/// A byte, of hexadecimal digits.
-pub fn byte(digits: &str) -> Option<u8> {
-    u8::from_str_radix(digits, 16).ok()
-}
-
-/// How many bytes, as `2 blocks and 5 bytes`: one term or two, as tests need no third.
+/// How many bytes, as `1 block` or `2 blocks and 5 bytes`. A frame is a recording frame here, a sixteenth of a block,
+/// and a sector is one of a DVD.
 pub fn amount(text: &str) -> Option<usize> {
-    match text.split_once(" and ") {
-        Some((first, second)) => term(first)?.checked_add(term(second)?),
-        None => term(text),
+    let mut bytes: usize = 0;
+    for term in text.split(" and ") {
+        let (count, unit) = term.split_once(' ')?;
+        let size = match unit.strip_suffix('s').unwrap_or(unit) {
+            "byte" => 1,
+            "row" => ROW_BYTES,
+            "sector" => 2048,
+            "frame" => BLOCK_BYTES / 16,
+            "block" => BLOCK_BYTES,
+            "marked block" => 208 * MARKED_ROW_BYTES,
+            _ => return None,
+        };
+        bytes = bytes.checked_add(number(count)?.checked_mul(size)?)?;
     }
-}
-
-// A number of units, as `1 block` or `2 blocks`. A frame is a recording frame here, a sixteenth of a block, and a
-// sector is one of a DVD; `cdsector` is one of a CD-ROM.
-fn term(text: &str) -> Option<usize> {
-    let (count, unit) = text.split_once(' ')?;
-    let size = match unit.strip_suffix('s').unwrap_or(unit) {
-        "byte" => 1,
-        "row" => ROW_BYTES,
-        "sector" => 2048,
-        "frame" => BLOCK_BYTES / 16,
-        "block" => BLOCK_BYTES,
-        "marked block" => MARKED_BLOCK_BYTES,
-        "cdsector" => 2352,
-        _ => return None,
-    };
-    number(count)?.checked_mul(size)
+    Some(bytes)
 }
 
 /// Numbers, as `3`, `0 to 15` or `0 to 206 step 2`. Both ends belong to them, as far as the steps meet the last.
@@ -64,9 +48,8 @@ pub fn numbers(alloc: Global, text: &str) -> Option<Vec<usize>> {
     let (first, last, step) = (number(first)?, number(last)?, number(step)?);
     let mut numbers = Vec::new(alloc);
     for k in 0..=last.checked_sub(first)?.checked_div(step)? {
-        numbers
-            .push(first.saturating_add(k.saturating_mul(step)))
-            .ok()?;
+        let number = first.saturating_add(k.saturating_mul(step));
+        numbers.push(number).ok()?;
     }
     Some(numbers)
 }
@@ -98,28 +81,25 @@ pub fn cases(alloc: Global, text: &str, brackets: [char; 2]) -> Option<Vec<Strin
     Some(cases)
 }
 
-// The text with the value of case `k` in place of all values, and how many cases there are.
+// The text with the value of case `k` in place of all values, and how many cases there are. The values are words with
+// commas between them, or numbers, as `{0 to 15}`. What has no comma is numbers: a single word in brackets has nothing
+// to choose from, and is refused.
 fn spell(alloc: Global, text: &str, brackets: [char; 2], k: usize) -> Option<(String, usize)> {
     let (mut spelt, mut count) = (String::new(alloc), 1);
     let mut parts = text.split(brackets[0]);
     spelt.push_str(parts.next()?).ok()?;
     for part in parts {
         let (values, rest) = part.split_once(brackets[1])?;
-        count = put_value(alloc, values, k, &mut spelt)?.max(count);
+        if values.contains(", ") {
+            spelt.push_str(values.split(", ").nth(k)?).ok()?;
+            count = values.split(", ").count().max(count);
+        } else {
+            let numbers = numbers(alloc, values)?;
+            let number = format!(in alloc; "{}", numbers.get(k)?).ok()?;
+            spelt.push_str(number.as_str()).ok()?;
+            count = numbers.len().max(count);
+        }
         spelt.push_str(rest).ok()?;
     }
     Some((spelt, count))
-}
-
-// The values are words with commas between them, or numbers, as `{0 to 15}`. What has no comma is numbers: a single
-// word in brackets has nothing to choose from, and is refused.
-fn put_value(alloc: Global, values: &str, k: usize, spelt: &mut String) -> Option<usize> {
-    if values.contains(", ") {
-        spelt.push_str(values.split(", ").nth(k)?).ok()?;
-        return Some(values.split(", ").count());
-    }
-    let numbers = numbers(alloc, values)?;
-    let number = format!(in alloc; "{}", numbers.get(k)?).ok()?;
-    spelt.push_str(number.as_str()).ok()?;
-    Some(numbers.len())
 }

@@ -1,7 +1,6 @@
-//! Bytes of a capture that are lost, wrong or doubtful, at places of its blocks. This crate is for tests alone, so its
-//! functions have no clauses. None as an answer is a text that isn't of the form. Sums and products stop at the largest
+//! Bytes of a capture that are lost, wrong or doubtful, at places of its blocks. Sums and products stop at the largest
 //! number, since a text may have any: such a place isn't there, and is passed over.
-use crate::amounts::{BLOCK_BYTES, MARKED_ROW_BYTES, ROW_BYTES, byte, is, number, numbers};
+use crate::amounts::{BLOCK_BYTES, MARKED_ROW_BYTES, ROW_BYTES, is, number, numbers};
 use std::alloc::Global;
 
 // What happens to bytes, and where.
@@ -10,10 +9,8 @@ struct Damage {
     blocks: Vec<usize>,
     rows: Vec<usize>,
     bytes: Vec<usize>,
-    // How many bytes further the bytes are in each row than in the one before.
-    shift: usize,
-    // The bytes of a row, or of what is hit in place of rows.
-    length: usize,
+    shift: usize, // how many bytes further the bytes are in each row than in the one before
+    length: usize, // the bytes of a row, or of what is hit in place of rows
     // These bits of a byte are kept, and then those inverted. In the marked form it also gets a mark, or none.
     kept: u8,
     turned: u8,
@@ -27,7 +24,7 @@ struct Damage {
 pub fn damage_bytes(alloc: Global, verb: &str, rest: &str, bytes: &mut [u8]) -> Option<()> {
     let valued = verb.split_once(" by ").or(verb.split_once(" as "));
     let (kind, value) = valued.unwrap_or((verb, "00"));
-    let turned = byte(value)?;
+    let turned = u8::from_str_radix(value, 16).ok()?;
     let (kept, mark) = match kind {
         "wrong" => (0xFF, None),
         "zero" | "set" => (0, None),
@@ -55,8 +52,8 @@ pub fn damage_bytes(alloc: Global, verb: &str, rest: &str, bytes: &mut [u8]) -> 
     Some(())
 }
 
-// Sectors are kept as rows of another length, of one block, and `places` as bytes of one row: so one loop does for all.
-// `max` keeps the shift that one part names, where others name none.
+// Sectors are kept as rows of another length, of one block, and `places` as bytes of a row that has all there are: so
+// one loop does for all. `max` keeps the shift that one part names, where others name none.
 fn read_places(alloc: Global, text: &str, damage: &mut Damage) -> Option<()> {
     for part in text.split(", ") {
         let (name, named) = part.split_once(' ')?;
@@ -69,10 +66,7 @@ fn read_places(alloc: Global, text: &str, damage: &mut Damage) -> Option<()> {
             "byte" => damage.bytes = named,
             "sector" => (damage.rows, damage.length) = (named, 2048),
             "cdsector" => (damage.rows, damage.length) = (named, 2352),
-            "place" => {
-                (damage.bytes, damage.length) = (named, usize::MAX);
-                damage.rows.truncate(1);
-            }
+            "place" => (damage.bytes, damage.length) = (named, usize::MAX),
             _ => return None,
         }
     }
@@ -121,9 +115,9 @@ fn hit_row(damage: &Damage, i: usize, row: &mut [u8]) {
     }
 }
 
-/// Where a row of a block is recorded: after each twelve rows of data comes one of outer parity. Row 192 + f is the
-/// last of the thirteen of recording frame f. `failure` calls it too, to print places.
-pub fn recorded(row: usize) -> usize {
+// Where a row of a block is recorded: after each twelve rows of data comes one of outer parity. Row 192 + f is the last
+// of the thirteen of recording frame f.
+fn recorded(row: usize) -> usize {
     if row < 192 {
         row + row / 12
     } else {

@@ -1,7 +1,5 @@
-//! What a test ends with, and what is printed where the result isn't the one expected. This crate is for tests alone:
-//! its functions have no clauses, so of them only is proved that they are safe and end.
+//! What a test ends with, and what is printed where the result isn't the one expected.
 use crate::amounts::{MARKED_ROW_BYTES, ROW_BYTES};
-use crate::damage::recorded;
 use crate::trial::TrialState;
 use std::thread::Threads;
 
@@ -25,18 +23,16 @@ pub fn fails<R: AllocGlobal + Threads + Sync>(rt: &R, text: &str) -> bool {
     TrialState::new(rt).holds(text).is_none()
 }
 
-// The arguments that ran last, their result, and where the output first differs from the wanted one: as an image, and
-// as a capture of both forms: which of them it is isn't known here. What can't be printed is let go, since nothing else
-// can be done for it. 2,048 bytes are a sector.
+// The arguments that ran last, their result, and where the output first differs from the wanted one, if a text says
+// that: as an image, and as a capture of both forms: which of them it is isn't known here. What can't be printed is let
+// go, since nothing else can be done for it. 2,048 bytes are a sector.
 fn print<R: Eprint>(rt: &R, trial: &TrialState<R>) {
     let words = trial.words.split(" or ").nth(trial.last).unwrap_or("");
     let (line, left) = (trial.line.as_str(), &trial.left);
     let (status, length) = (left.status, left.output.len());
     let report = str::from_utf8(&left.report).unwrap_or("bytes that are no text");
     let _ = eprintln!(rt; "{line}\n{words}\ncame: {status:?}, {length} bytes: {report}");
-    let Some(output) = &trial.output else {
-        return;
-    };
+    let output = trial.output.as_ref().unwrap_or(&left.output);
     for (at, (wanted, came)) in output.iter().zip(&left.output).enumerate() {
         if *wanted != *came {
             let (sector, byte) = (at / 2048, at % 2048);
@@ -48,12 +44,14 @@ fn print<R: Eprint>(rt: &R, trial: &TrialState<R>) {
     }
 }
 
-// Which row of a block is recorded there: `place` is a number of recorded rows. The row is searched, since `recorded`
-// has no other inverse; each place of a block has one, so the default doesn't come.
+// Which row of a block is recorded there: `place` is a number of recorded rows. After twelve rows of data comes one of
+// outer parity, so a recording frame has thirteen.
 fn print_place<R: Eprint>(rt: &R, form: &str, place: usize, byte: usize) {
-    let (block, place) = (place / 208, place % 208);
-    let row = (0..208usize)
-        .position(|row| recorded(row) == place)
-        .unwrap_or(0);
+    let (block, frame, row) = (place / 208, place % 208 / 13, place % 13);
+    let row = if row < 12 {
+        frame * 12 + row
+    } else {
+        frame + 192
+    };
     let _ = eprintln!(rt; "in the {form} form: block {block}, row {row}, byte {byte}");
 }

@@ -1,13 +1,9 @@
 //! A gate that counts the calls of each piece, and may let two workers wait for each other. A pass over a block is
 //! shared out in pieces, one for each worker, and asks the gate at the start of each. No contract says that two threads
 //! run at the same time, so a test has to see it: two pieces that wait for each other both go on only where it is so.
-//! `derive(Drop)` lets an owner let go of a value.
 use dvd_par::Gate;
-use std::sync::atomic::{AtomicU64, Ordering};
-
-// How often a piece looks at the counter of the other, at most. So a run ends whose workers don't meet. Any number
-// would do that takes longer than a worker needs to begin.
-const MOST_LOOKS: u64 = 50_000_000;
+use std::sync::atomic::AtomicU64;
+use std::sync::atomic::Ordering::SeqCst;
 
 #[derive(Drop)]
 pub struct Counting {
@@ -28,13 +24,12 @@ impl Counting {
 
     // Counts a call of a piece. The order of all accesses here is the strictest one, since a test needn't be quick.
     fn count(&self, piece: usize) {
-        self.digits
-            .fetch_add(1 << (4 * piece.min(15)), Ordering::SeqCst);
+        self.digits.fetch_add(1 << (4 * piece.min(15)), SeqCst);
     }
 
     // The digit of a piece.
     fn calls(&self, piece: usize) -> u64 {
-        self.digits.load(Ordering::SeqCst) >> (4 * piece.min(15)) & 0xF
+        self.digits.load(SeqCst) >> (4 * piece.min(15)) & 0xF
     }
 
     /// Whether each of the first `pieces` pieces was called `times` times, and no other, and no wait ran out. The
@@ -44,20 +39,20 @@ impl Counting {
         for _ in 0..pieces.min(15) {
             digits = digits << 4 | times as u64 & 0xF;
         }
-        self.digits.load(Ordering::SeqCst) == digits
+        self.digits.load(SeqCst) == digits
     }
 }
 
 impl Gate for Counting {
     // Counts, and then waits until the other piece has been called as often, or a fault is counted. It counts first,
-    // since the other waits for this count. That the looks run out is a fault: so a wait always ends, and the run is
-    // seen to have failed.
+    // since the other waits for this count. That the looks at the other's count run out is a fault: so a wait always
+    // ends, and the run is seen to have failed. Any number would do that takes longer than a worker needs to begin.
     fn pass(&self, piece: usize) {
         self.count(piece);
         if !self.meets || piece > 1 {
             return;
         }
-        for _ in 0..MOST_LOOKS {
+        for _ in 0..50_000_000 {
             if self.calls(1 - piece) >= self.calls(piece) || self.calls(15) > 0 {
                 return;
             }

@@ -1,13 +1,131 @@
-//! One run and what it leaves. This crate is for tests alone, so its functions have no clauses. A run here is that of
-//! the program: its arguments as words, its streams over memory by the adapters that `main` has, and its status.
-//! `derive(Drop)` lets an owner let go of a value.
+//! One run, its streams and what it leaves. A run here is that of the program: its arguments as words, its streams over
+//! memory by the adapters that `main` has, and its status. The streams go in pieces and fail at one call, and see that
+//! nothing is tried again: after a failed call, and after a read that met the end of the input, no stream is asked for
+//! anything more but the report, for the closing line; and after a fault of the report not even that. They are std's
+//! readers and writers, and not sources and sinks, so that a run goes by these adapters, flushes included.
 use crate::amounts::is;
-use crate::streams::{Input, Output, Plan, SOUND, StreamCall, Watch};
+use crate::runs::StreamCall::{Flush, FlushReport, Report};
 use dvd_par::Gate;
 use dvd_ports::{StdSink, StdSource};
 use dvd_top::{Status, run};
 use std::alloc::Global;
+use std::cell::Cell;
+use std::io::{self, Error, ErrorKind, Read, Write};
 use std::thread::Threads;
+
+/// The kinds of calls, of which one may fail.
+#[derive(Clone, Copy, PartialEq, Eq)]
+pub enum StreamCall {
+    Read,
+    Write,
+    Flush,
+    Report,
+    FlushReport,
+}
+
+/// The most bytes of a call of any stream, and the one call that fails: its kind, and how many such come before it.
+#[derive(Clone, Copy)]
+pub struct Plan {
+    pub step: usize,
+    pub call: StreamCall,
+    pub count: usize,
+}
+
+/// No call fails: no run makes so many. A run leaves the same by any step; by a long one it is quick. 40,000 bytes are
+/// more than a block as it is recorded.
+pub const SOUND: Plan = Plan {
+    step: 40_000,
+    call: StreamCall::Read,
+    count: usize::MAX,
+};
+
+/// What the streams of a run have in common: cells, since each of three streams notes what it sees.
+#[derive(Drop)]
+pub struct Watch {
+    plan: Plan,
+    coming: Cell<usize>, // the calls that come before the one that fails
+    pub read: Cell<usize>, // the bytes that were read
+    pub stopped: Cell<Option<StreamCall>>, // the last call that failed or met the end of the input
+    is_late: Cell<bool>, // and then a call came, but for a closing line
+    lines: Cell<usize>, // the lines of the report that begin then
+}
+
+impl Watch {
+    // A call comes, and fails where the plan says so. After one that stopped, any is late but those of the report; and
+    // those are late after a fault of its own. Else they may be of the closing line, of which the beginning is counted.
+    fn begin(&self, call: StreamCall, begins_line: bool) -> io::Result<()> {
+        let is_report = matches!(call, Report | FlushReport);
+        match self.stopped.get() {
+            None => {}
+            Some(Report | FlushReport) => self.is_late.set(true),
+            Some(_) if !is_report => self.is_late.set(true),
+            Some(_) if begins_line => self.lines.set(self.lines.get().saturating_add(1)),
+            Some(_) => {}
+        }
+        if self.plan.call == call {
+            let coming = self.coming.get();
+            self.coming.set(coming.wrapping_sub(1));
+            if coming == 0 {
+                return Err(self.stop(call));
+            }
+        }
+        Ok(())
+    }
+
+    // The kind of error after which readers and writers commonly try again, which a run must not.
+    fn stop(&self, call: StreamCall) -> Error {
+        self.stopped.set(Some(call));
+        ErrorKind::Interrupted.into()
+    }
+}
+
+// The input, of which `rest` is what wasn't read yet.
+#[derive(Drop)]
+struct Input<'a> {
+    watch: &'a Watch,
+    rest: &'a [u8],
+}
+
+impl<'a> Read for Input<'a> {
+    fn read(&mut self, buf: &mut [u8]) -> io::Result<usize> {
+        self.watch.begin(StreamCall::Read, false)?;
+        let count = self.watch.plan.step.min(buf.len().min(self.rest.len()));
+        // The end of the input, as a source never asks with an empty buffer. It is no error, so this one is let go.
+        if count == 0 {
+            let _ = self.watch.stop(StreamCall::Read);
+        }
+        buf[..count].copy_from_slice(&self.rest[..count]);
+        self.rest = &self.rest[count..];
+        let read = self.watch.read.get();
+        self.watch.read.set(read.saturating_add(count));
+        Ok(count)
+    }
+}
+
+// The output, or the report: `calls` are the kinds of its writes and of its flushes. `held` is what it got.
+#[derive(Drop)]
+struct Output<'a> {
+    watch: &'a Watch,
+    calls: [StreamCall; 2],
+    held: &'a mut Vec<u8>,
+}
+
+impl<'a> Write for Output<'a> {
+    // A line begins where nothing or a whole line is held. By want of memory of the test the run sees a fault, and the
+    // line that wants another status doesn't hold.
+    fn write(&mut self, buf: &[u8]) -> io::Result<usize> {
+        let begins_line = matches!(self.held.last(), None | Some(b'\n'));
+        self.watch.begin(self.calls[0], begins_line)?;
+        let count = self.watch.plan.step.min(buf.len());
+        self.held.extend_from_slice(&buf[..count])?;
+        Ok(count)
+    }
+
+    // A sink flushes each write at once, so that a flush has the number of its write.
+    fn flush(&mut self) -> io::Result<()> {
+        self.watch.begin(self.calls[1], false)
+    }
+}
 
 /// What a run leaves.
 #[derive(Drop)]
@@ -20,24 +138,29 @@ pub struct Left {
 }
 
 impl Left {
-    // Nothing yet. `is_same` accepts no `NoMemory`, so that this is like no result.
-    pub fn new(alloc: Global) -> Left {
+    /// Nothing yet. `is_same` accepts no `NoMemory`, so that this is like no result.
+    pub fn new(alloc: Global, plan: Plan) -> Left {
+        let watch = Watch {
+            plan,
+            coming: Cell::new(plan.count),
+            read: Cell::new(0),
+            stopped: Cell::new(None),
+            is_late: Cell::new(false),
+            lines: Cell::new(0),
+        };
         Left {
             status: Status::NoMemory,
             output: Vec::new(alloc),
             report: Vec::new(alloc),
-            watch: Watch::new(SOUND),
+            watch,
         }
     }
 
     /// Whether both runs had memory and left the same. How much they read isn't compared.
     pub fn is_same(&self, other: &Left) -> Option<()> {
-        is(
-            self.status == other.status
-                && self.status != Status::NoMemory
-                && self.output.as_slice() == other.output.as_slice()
-                && self.report.as_slice() == other.report.as_slice(),
-        )
+        is(self.status == other.status && self.status != Status::NoMemory)?;
+        is(self.output.as_slice() == other.output.as_slice())?;
+        is(self.report.as_slice() == other.report.as_slice())
     }
 }
 
@@ -52,9 +175,10 @@ pub fn words_of(alloc: Global, text: &str) -> Option<Vec<String>> {
     Some(words)
 }
 
-/// Runs the arguments over these bytes, where the workers ask this gate. Answers whether nothing was tried again: so
-/// each run of each text tests that. What it leaves is handed over by the caller, so that it is there to be printed
-/// where something was.
+/// Runs the arguments over these bytes, where the workers ask this gate. Answers whether nothing was tried again, so
+/// each run of each text tests that: nothing but the closing line came after a call that stopped. Lines are counted and
+/// not calls, since a line may go in many; none at all is right too, as after a fault of the report. What a run leaves
+/// is handed over by the caller, so that it is there to be printed where something was.
 pub fn run_over<R: AllocGlobal + Threads + Sync, G: Gate>(
     rt: &R,
     gate: &G,
@@ -65,16 +189,15 @@ pub fn run_over<R: AllocGlobal + Threads + Sync, G: Gate>(
 ) -> Option<()> {
     let alloc = rt.alloc();
     let words = words_of(alloc, text)?;
-    *left = Left::new(alloc);
-    left.watch = Watch::new(plan);
+    *left = Left::new(alloc, plan);
     let watch = &left.watch;
     let input = Input { watch, rest: bytes };
-    let (call, held) = (StreamCall::Write, &mut left.output);
-    let output = Output { watch, call, held };
-    let (call, held) = (StreamCall::Report, &mut left.report);
-    let report = Output { watch, call, held };
+    let (calls, held) = ([StreamCall::Write, Flush], &mut left.output);
+    let output = Output { watch, calls, held };
+    let (calls, held) = ([Report, FlushReport], &mut left.report);
+    let report = Output { watch, calls, held };
     let source = &mut StdSource::new(input);
     let (sink, lines) = (&mut StdSink::new(output), &mut StdSink::new(report));
     left.status = run(rt, alloc, &words, gate, source, sink, lines);
-    is(left.watch.is_kept())
+    is(!left.watch.is_late.get() && left.watch.lines.get() <= 1)
 }

@@ -1,11 +1,8 @@
 //! The lines of a text: which bytes are made, which arguments are run, and what has to come. The head of `lib` lists
-//! them. This crate is for tests alone, so its functions have no clauses. None as an answer is a line that doesn't hold
-//! or can't be read, or want of memory: whichever it is, the test fails, and the line is printed. Lists are swapped and
-//! not copied where that does, since a copy needs memory and may fail. `derive(Drop)` lets an owner let go of a value.
-use crate::amounts::{BLOCK_BYTES, amount, cases, is, put_names};
+//! them. Lists are swapped and not copied where that does, since a copy needs memory and may fail.
+use crate::amounts::{amount, cases, is, put_names};
 use crate::made::{add_lines, append_bytes, do_step};
-use crate::runs::{Left, run_over};
-use crate::streams::{Plan, SOUND};
+use crate::runs::{Left, Plan, SOUND, run_over};
 use dvd_par::OpenGate;
 use dvd_top::Status;
 use sha2::{Digest, Sha256};
@@ -18,21 +15,15 @@ use std::thread::Threads;
 pub struct TrialState<'a, R> {
     pub rt: &'a R,
     pub alloc: Global,
-    /// The line that didn't hold.
-    pub line: String,
-    // The bytes that cases have in common.
-    given: Vec<u8>,
-    /// The bytes of a case, and others, for other arguments.
+    pub line: String, // the line that was tried last
+    given: Vec<u8>, // the bytes that cases have in common
     pub case: Vec<u8>,
-    twin: Vec<u8>,
-    /// The whole output, where a text says it.
-    pub output: Option<Vec<u8>>,
+    pub output: Option<Vec<u8>>, // the whole output, where a text says it
     /// The arguments of each run, with ` or ` between the runs, and which of them ran last. They are taken apart at
     /// each run: no argument is the word `or`.
     pub words: String,
     pub last: usize,
-    /// What the streams of the next run do.
-    pub plan: Plan,
+    pub plan: Plan, // what the streams of the next run do
     /// What the last run left, and the last result that a line states.
     pub left: Left,
     pub kept: Left,
@@ -53,46 +44,38 @@ impl<'a, R: AllocGlobal + Threads + Sync> TrialState<'a, R> {
             line: String::new(alloc),
             given: Vec::new(alloc),
             case: Vec::new(alloc),
-            twin: Vec::new(alloc),
             output: None,
             words: String::new(alloc),
             last: 0,
             plan: SOUND,
-            left: Left::new(alloc),
-            kept: Left::new(alloc),
+            left: Left::new(alloc, SOUND),
+            kept: Left::new(alloc, SOUND),
         }
     }
 
-    /// Whether what a text says holds, for each case of each of its groups. What a group leaves in the state stays for
-    /// the next, and texts rest on it. None is also a text that can't be read, or want of memory.
+    /// Whether what a text says holds, for each case of each of its groups, and of each of its lines. What a group
+    /// leaves in the state stays for the next, and texts rest on it. A line is kept as it was spelt, to be printed.
     pub fn holds(&mut self, text: &str) -> Option<()> {
         let text = put_names(self.alloc, text)?;
         for groups in text.split("\n\n") {
             for group in &cases(self.alloc, groups, ['[', ']'])? {
                 for line in group.lines() {
-                    self.line_holds(line)?;
+                    let (line, _) = line.split_once('#').unwrap_or((line, ""));
+                    for line in &cases(self.alloc, line, ['{', '}'])? {
+                        self.line = line.clone().ok()?;
+                        self.line_holds(line.as_str())?;
+                    }
                 }
             }
         }
         Some(())
     }
 
-    // Whether a line holds, for each of its cases. One that doesn't hold is kept as it was spelt, to be printed.
-    fn line_holds(&mut self, line: &str) -> Option<()> {
-        let (line, _) = line.split_once('#').unwrap_or((line, ""));
-        for line in cases(self.alloc, line, ['{', '}'])? {
-            if self.case_holds(line.as_str()).is_none() {
-                self.line = line;
-                return None;
-            }
-        }
-        Some(())
-    }
-
     // Does the part before an arrow, and then runs and compares; without an arrow there is the part alone. After `->`
-    // the run is done once for each of its arguments, after `=>` also in pieces. An arrow is looked for first, since
-    // what has to come has colons too.
-    fn case_holds(&mut self, line: &str) -> Option<()> {
+    // each of the arguments runs once, after `=>` also in pieces, so many bytes a call. Any steps would do: these are
+    // the least, two shorter than a sector, and one longer than a block as it is recorded. Arrows are looked for first,
+    // since what has to come has colons too.
+    fn line_holds(&mut self, line: &str) -> Option<()> {
         let arrow = if line.contains("=>") { "=>" } else { "->" };
         let Some((part, wanted)) = line.split_once(arrow) else {
             return self.part_holds(line.trim());
@@ -100,7 +83,9 @@ impl<'a, R: AllocGlobal + Threads + Sync> TrialState<'a, R> {
         self.part_holds(part.trim())?;
         self.comes(wanted.trim())?;
         if arrow == "=>" {
-            self.comes_in_pieces()?;
+            for step in [1, 7, 2047, 40_000] {
+                self.stays(0, Plan { step, ..SOUND })?;
+            }
         }
         Some(())
     }
@@ -110,70 +95,66 @@ impl<'a, R: AllocGlobal + Threads + Sync> TrialState<'a, R> {
     fn part_holds(&mut self, part: &str) -> Option<()> {
         let (verb, rest) = part.split_once(": ").unwrap_or((part, ""));
         match verb {
-            "" | "name" => Some(()),
-            "given" | "also" | "output" | "case" | "twin" => self.make(verb, rest),
+            "" | "name" => {}
+            "given" | "also" | "output" | "case" => self.make(verb, rest)?,
             "run" => {
-                self.words = String::from_str(self.alloc, rest).ok()?;
-                Some(())
+                let (words, steps) = rest.split_once(" over ").unwrap_or((rest, ""));
+                self.words = String::from_str(self.alloc, words).ok()?;
+                if !steps.is_empty() {
+                    self.make("given", steps)?;
+                }
             }
-            "reads" | "writes" | "reports" => self.set_plan(verb, rest),
-            "alike" => self.are_alike(rest),
-            "all fail in turn" => self.fail_in_turn(rest),
-            "each call stops it" => self.stop_in_turn(rest),
-            "pieces meet" | "pieces ask" => self.ask(rest, verb == "pieces meet"),
-            _ => None,
+            "reads" | "writes" | "reports" => self.set_plan(verb, rest)?,
+            "alike" => self.are_alike(rest)?,
+            "all fail in turn" => self.fail_in_turn(rest)?,
+            "each call stops it" => self.stop_in_turn(rest)?,
+            "pieces meet" | "pieces ask" => self.ask(rest, verb == "pieces meet")?,
+            _ => return None,
         }
+        Some(())
     }
 
-    // The bytes in common are also those of a case, until it gets its own. `given` and `output` begin with no bytes,
-    // the others with those in common. New bytes in common make the output any, but `also` only changes them.
+    // `also` and `case` begin with the bytes in common, `given` and `output` with none. The bytes in common are also
+    // those of a case, until it gets its own. New ones make the output any, but `also` only changes them.
     fn make(&mut self, verb: &str, text: &str) -> Option<()> {
-        let bytes = match verb {
-            "also" | "case" | "twin" => self.given.clone().ok()?,
-            _ => Vec::new(self.alloc),
-        };
+        if verb == "given" {
+            (self.given, self.output) = (Vec::new(self.alloc), None);
+        }
+        let mut bytes = Vec::new(self.alloc);
+        if verb != "output" {
+            append_bytes(&mut bytes, &self.given)?;
+        }
         let made = self.made(text, bytes)?;
         match verb {
             "output" => self.output = Some(made),
             "case" => self.case = made,
-            "twin" => self.twin = made,
-            _ => {
-                if verb == "given" {
-                    self.output = None;
-                }
-                self.case = made.clone().ok()?;
-                self.given = made;
-            }
+            _ => (self.case, self.given) = (made.clone().ok()?, made),
         }
         Some(())
     }
 
     // What these steps make of the bytes. A recording has a block of sixteen sectors, or of what is left after these.
+    // `left` is scratch here: what lines ask of a result is asked of `kept`, or at once after a run of their own. The
+    // length that a run makes is stated, so that one that leaves other bytes than its author meant fails here, and not
+    // where they are used.
     fn made(&mut self, text: &str, mut bytes: Vec<u8>) -> Option<Vec<u8>> {
+        let alloc = self.alloc;
         for step in text.split(" | ") {
-            if step == "recorded" {
-                let sectors = bytes.len() / 2048;
-                let words = format!(in self.alloc; "master --sectors {sectors}").ok()?;
-                let length = sectors.div_ceil(16).checked_mul(BLOCK_BYTES)?;
-                self.write_over(words.as_str(), length, &mut bytes)?;
-            } else if let Some((words, length)) = step.split_once(" makes ") {
-                self.write_over(words, amount(length)?, &mut bytes)?;
-            } else if step == "given" {
+            let sectors = bytes.len() / 2048;
+            let blocks = sectors.div_ceil(16);
+            let words = format!(in alloc; "master --sectors {sectors} makes {blocks} blocks").ok()?;
+            let step = step.replace(alloc, "recorded", words.as_str()).ok()?;
+            if let Some((words, length)) = step.split_once(" makes ") {
+                run_over(self.rt, &OpenGate, words, &bytes, SOUND, &mut self.left)?;
+                swap(&mut bytes, &mut self.left.output);
+                is(self.left.status == Status::Done && bytes.len() == amount(length)?)?;
+            } else if step.as_str() == "given" {
                 append_bytes(&mut bytes, &self.given)?;
             } else {
-                do_step(self.alloc, step, &mut bytes)?;
+                do_step(alloc, step.as_str(), &mut bytes)?;
             }
         }
         Some(bytes)
-    }
-
-    // The bytes become what a run writes over them. `left` is scratch here: what lines ask of a result is asked of
-    // `kept`, or at once after a run of their own. The length is stated, so that a run that leaves other bytes than
-    // its author meant fails here, and not where they are used.
-    fn write_over(&mut self, words: &str, length: usize, bytes: &mut Vec<u8>) -> Option<()> {
-        run_over(self.rt, &OpenGate, words, bytes, SOUND, &mut self.left)?;
-        swap(bytes, &mut self.left.output);
-        is(self.left.status == Status::Done && bytes.len() == length)
     }
 
     /// Runs the arguments of this number over the bytes of the case, where there are such. What it leaves is in `left`,
@@ -184,16 +165,14 @@ impl<'a, R: AllocGlobal + Threads + Sync> TrialState<'a, R> {
         run_over(self.rt, &OpenGate, words, &self.case, plan, &mut self.left)
     }
 
-    // The runs leave what is wanted, each the same. It is kept, as later lines ask for it: by a swap, which needs
-    // no memory. The plan is for once: for these runs, and the next ones are sound again. Without a run nothing can
-    // come.
+    // The runs leave what is wanted, each the same. It is kept, as later lines ask for it: by a swap, which needs no
+    // memory. The plan is for these runs alone, and the next ones are sound again. Without a run nothing can come.
     fn comes(&mut self, wanted: &str) -> Option<()> {
         let plan = replace(&mut self.plan, SOUND);
         is(!self.words.is_empty())?;
-        let mut wanted = wanted;
-        if let Some((before, output)) = wanted.split_once(" with ") {
+        let (wanted, output) = wanted.split_once(" with ").unwrap_or((wanted, ""));
+        if !output.is_empty() {
             self.make("output", output)?;
-            wanted = before;
         }
         self.go(0, plan)?;
         let mut facts = wanted.split("; ");
@@ -224,31 +203,28 @@ impl<'a, R: AllocGlobal + Threads + Sync> TrialState<'a, R> {
             None => (ended, self.output.as_ref()?.len()),
         };
         let left = &self.left;
+        let name = format!(in self.alloc; "{:?}", left.status).ok()?;
         // Where no text says the whole output it may be any.
         let whole = self.output.as_ref().unwrap_or(&left.output);
-        let name = format!(in self.alloc; "{:?}", left.status).ok()?;
+        is(name.as_str() == status && left.output.len() == length)?;
+        is(whole.starts_with(&left.output))?;
         let mut lines = Vec::new(self.alloc);
         add_lines(self.alloc, &mut lines, report)?;
         // A report that is cut off ends in `..`, and not in a line.
-        let lines = lines.strip_suffix(b"..\n").unwrap_or(lines.as_slice());
+        is(left.report.as_slice() == lines.strip_suffix(b"..\n").unwrap_or(lines.as_slice()))?;
         let has_begun = !matches!(left.status, Status::Usage | Status::Setting);
-        is(
-            name.as_str() == status
-                && (has_begun || left.watch.read.get() == 0)
-                && left.output.len() == length
-                && whole.starts_with(&left.output)
-                && left.report.as_slice() == lines,
-        )
+        is(has_begun || left.watch.read.get() == 0)
     }
 
-    // Whether the arguments before `=` leave over the case what those after it leave over its twin. They are then what
-    // is run, and what the twin leaves is what is kept.
+    // Of `A = B over STEPS`, whether the arguments A leave over the case what B leave over what these steps make. A are
+    // then what is run, and what B leave is what is kept.
     fn are_alike(&mut self, text: &str) -> Option<()> {
         let (words, others) = text.split_once(" = ")?;
+        let (others, steps) = others.split_once(" over ")?;
+        let bytes = self.made(steps, Vec::new(self.alloc))?;
         self.words = String::from_str(self.alloc, words).ok()?;
         self.go(0, SOUND)?;
-        let (twin, kept) = (&self.twin, &mut self.kept);
-        run_over(self.rt, &OpenGate, others, twin, SOUND, kept)?;
+        run_over(self.rt, &OpenGate, others, &bytes, SOUND, &mut self.kept)?;
         self.left.is_same(&self.kept)
     }
 

@@ -1,12 +1,9 @@
-//! Runs that go in pieces, or in which something fails in turn, or whose workers are counted. `kept` is the
-//! result that a line stated last, with which `left`, that of the run at hand, is compared; a `Plan` is how many bytes
-//! a call moves, and the one call that fails. This crate is for tests alone, so its functions have no clauses. None as
-//! an answer is a line that doesn't hold or can't be read, or want of memory.
+//! Runs in which something fails in turn, or whose workers are counted. `kept` is the result that a line stated last,
+//! with which `left`, that of the run at hand, is compared.
 use crate::amounts::{amount, is, number};
 use crate::gate::Counting;
-use crate::runs::{Left, run_over};
-use crate::streams::StreamCall::{self, Flush, FlushReport, Read, Report, Write};
-use crate::streams::{Plan, SOUND};
+use crate::runs::StreamCall::{self, Flush, FlushReport, Read, Report, Write};
+use crate::runs::{Left, Plan, SOUND, run_over};
 use crate::trial::TrialState;
 use dvd_par::OpenGate;
 use dvd_top::Status;
@@ -26,15 +23,6 @@ impl<'a, R: AllocGlobal + Threads + Sync> TrialState<'a, R> {
         Some(())
     }
 
-    /// The runs leave the same where each stream moves so many bytes a call. Any steps would do: these are the least,
-    /// two shorter than a sector, and one longer than a block as it is recorded.
-    pub fn comes_in_pieces(&mut self) -> Option<()> {
-        for step in [1, 7, 2047, 40_000] {
-            self.stays(0, Plan { step, ..SOUND })?;
-        }
-        Some(())
-    }
-
     /// `9 reads of 5000 bytes, 16 writes of 700 bytes`: these are all calls of a stream, and where one of them fails,
     /// all that was done before it is left. Last the call after these is to fail, which doesn't come: so the runs leave
     /// the same, and the number of calls is exact. Where one fails only the first arguments are run.
@@ -45,10 +33,9 @@ impl<'a, R: AllocGlobal + Threads + Sync> TrialState<'a, R> {
             let (calls, call, step) = (number(calls)?, call_of(call)?, amount(step)?);
             for count in 0..calls {
                 self.go(0, Plan { step, call, count })?;
-                if call == Read {
-                    self.leaves_prefix(call, &self.over_what_it_read()?)?;
-                } else {
-                    self.leaves_prefix(call, &self.kept)?;
+                match call {
+                    Read => self.leaves_prefix(call, &self.over_what_it_read()?)?,
+                    _ => self.leaves_prefix(call, &self.kept)?,
                 }
             }
             let count = calls;
@@ -61,7 +48,7 @@ impl<'a, R: AllocGlobal + Threads + Sync> TrialState<'a, R> {
     fn over_what_it_read(&self) -> Option<Left> {
         let words = self.words.split(" or ").next()?;
         let read = self.case.get(..self.left.watch.read.get())?;
-        let mut left = Left::new(self.alloc);
+        let mut left = Left::new(self.alloc, SOUND);
         run_over(self.rt, &OpenGate, words, read, SOUND, &mut left)?;
         is(left.status != Status::NoMemory)?;
         Some(left)
@@ -102,7 +89,8 @@ impl<'a, R: AllocGlobal + Threads + Sync> TrialState<'a, R> {
                     for call in [Read, Write, Flush, Report, FlushReport] {
                         let plan = Plan { step, call, count };
                         run_over(self.rt, &OpenGate, words, bytes, plan, &mut self.left)?;
-                        is(self.left.watch.has_stopped() || self.left.status == Status::Done)?;
+                        let has_stopped = self.left.watch.stopped.get().is_some();
+                        is(has_stopped || self.left.status == Status::Done)?;
                     }
                 }
             }
@@ -129,8 +117,7 @@ impl<'a, R: AllocGlobal + Threads + Sync> TrialState<'a, R> {
     }
 }
 
-// The kind of call that a text names, one or many. Flushes have no name: only `stop_in_turn` lets them fail, all in
-// turn.
+// The kind of call that a text names, one or many. Flushes have no name, as only `stop_in_turn` lets them fail.
 fn call_of(name: &str) -> Option<StreamCall> {
     match name.strip_suffix('s').unwrap_or(name) {
         "read" => Some(Read),
@@ -140,11 +127,8 @@ fn call_of(name: &str) -> Option<StreamCall> {
     }
 }
 
-// Whether this is a line, or the end of one, and nothing comes after it. A write may have taken the beginning of the
-// line.
+// Whether this is a line or the end of one, of which a write may have taken the beginning, with nothing after it.
 fn is_last_line(text: &[u8]) -> bool {
-    match text.strip_suffix(b"\n") {
-        Some(line) => !line.contains(&b'\n'),
-        None => false,
-    }
+    text.strip_suffix(b"\n")
+        .is_some_and(|line| !line.contains(&b'\n'))
 }

@@ -6,8 +6,7 @@ use dvd_trial::{Held, hold};
 
 const DISKS: &str = "
 # An image with a byte too many.
-given: image of 18 sectors | front 34817 bytes
-run: master --sectors 17
+run: master --sectors 17 over image of 18 sectors | front 34817 bytes
 writes: 1000 bytes a call -> Long, 2 blocks: long
 # Words that ask for no layout.
 run: master --sectors 0 or recover --sectors 0 -> Setting, 0 bytes: setting: empty layer 0
@@ -26,65 +25,50 @@ run: master --shape parallel --sectors 32 --sectors1 16 --zones data -> Done, 3 
 
 # Disks of every shape with all of their zones. They are read back where nothing could be read of the first block.
 name: cpr = --cpr 0102030405ab
-name: parallel = --sectors 32 --sectors1 17 --shape parallel --zones all
-name: opposite = --sectors 32 --sectors1 17 --shape opposite --zones all
-given: image of 17 sectors
-run: master --sectors 17 --zones all <cpr>
--> Done, 274 blocks; digest: 7593F9F751D356A4637B1F3978F30B3B2C1A032425C67A83C2F05326EB5814CF
-run: recover --sectors 17 --zones all
-case: master --sectors 17 --zones all <cpr> makes 274 blocks | zero: block 0 -> Done with image of 17 sectors
-given: image of 49 sectors
-run: master <parallel> <cpr>
--> Done, 548 blocks; digest: 37269FF702DAA0B389B395F412845BAE2DC17AE6131FADA2A8E351288B274F9B
+name: disk = --sectors [17, 32 --sectors1 17 --shape parallel, 32 --sectors1 17 --shape opposite] --zones all
+run: master <disk> <cpr> over image of [17, 49, 49] sectors
+-> Done, [274, 548, 308] blocks; digest: [7593F9F751D356A4637B1F3978F30B3B2C1A032425C67A83C2F05326EB5814CF, \
+37269FF702DAA0B389B395F412845BAE2DC17AE6131FADA2A8E351288B274F9B, \
+BA11D727460299542C3AE8D2D20102B531219B512EF18603C3575D84F9277539]
+run: recover <disk>
+case: master <disk> <cpr> makes [274, 548, 308] blocks | zero: block 0 -> Done with image of [17, 49, 49] sectors
+
 # On the opposite track path, where each zone begins, and with which sixteen bytes.
-run: master <opposite> <cpr>
--> Done, 308 blocks; digest: BA11D727460299542C3AE8D2D20102B531219B512EF18603C3575D84F9277539; \
-at 0 blocks: 2402F0004F99000000000000ADAC8EA8; at 2 blocks: 2402F0202FD900000000000002004408; \
-at 32 blocks: 2402F200419500000000000000021314; at 224 blocks: 2402FE0065BD00000000000001002204; \
-at 256 blocks: 20030000D6F50102030405AB0180FAEA; at 258 blocks: 2C030020323D00000000000002004408; \
-at 274 blocks: 2DFCFEE0DC1300000000000080110202; at 290 blocks: 21FCFFE05F9D0102030405ABE6DD909D; \
-at 292 blocks: 29FD0000528600000000000001002204
-run: recover <parallel>
-case: master <parallel> <cpr> makes 548 blocks | zero: block 0 -> Done with image of 49 sectors
-run: recover <opposite>
-case: master <opposite> <cpr> makes 308 blocks | zero: block 0 -> Done with image of 49 sectors
+run: master --sectors 32 --sectors1 17 --shape opposite --zones all <cpr> over image of 49 sectors
+-> Done, 308 blocks; at 0 blocks: 2402F0004F99000000000000ADAC8EA8; \
+at 2 blocks: 2402F0202FD900000000000002004408; at 32 blocks: 2402F200419500000000000000021314; \
+at 224 blocks: 2402FE0065BD00000000000001002204; at 256 blocks: 20030000D6F50102030405AB0180FAEA; \
+at 258 blocks: 2C030020323D00000000000002004408; at 274 blocks: 2DFCFEE0DC1300000000000080110202; \
+at 290 blocks: 21FCFFE05F9D0102030405ABE6DD909D; at 292 blocks: 29FD0000528600000000000001002204
 
 # A disk of one layer with all of its zones. The first control block comes after 32 others, and nothing after it is
 # read: 33 blocks of eight calls. Each of its 192 control blocks gives the format where those before it are destroyed.
 name: none = NoControl, 0 bytes: no control block
-given: image of 16 sectors | master --sectors 16 --zones all makes 273 blocks
-run: info
+run: info over image of 16 sectors | master --sectors 16 --zones all makes 273 blocks
 => Done; read: 33 blocks with lines \
 version 1/rate 2/layers 1/path parallel/kind 1/density 0/pitch 0/first 030000/last 03000F/layer0 000000/bca 0
 all fail in turn: 264 reads of 5000 bytes, 3 writes of 50 bytes, 3 reports of 2 bytes
+each call stops it: 4 calls of 37856 bytes
 also: zero: block {32 to 222}     -> Done
 also: zero: block 223             -> <none>; read: 224 blocks
 
-given: image of 37 sectors | \
-master --sectors 32 --sectors1 5 --shape parallel --zones all --initial 2 --tail 0 makes 519 blocks
-run: info --initial 2             -> Done with lines \
-version 1/rate 2/layers 2/path parallel/kind 1/density 1/pitch 0/first 030000/last 03001F/layer0 000000/bca 0
-case: zero: block 34              -> Done
-case: zero: blocks 34 to 224      -> Done; read: 226 blocks
-case: zero: blocks 34 to 225      -> <none>
-given: image of 37 sectors | \
-master --sectors 32 --sectors1 5 --shape opposite --zones all --initial 300 --tail 1 makes 562 blocks
-run: info --form plain --initial=300 -> Done with lines \
-version 1/rate 2/layers 2/path opposite/kind 1/density 1/pitch 0/first 030000/last FCFFEF/layer0 03001F/bca 0
-case: zero: block 332             -> Done
-case: zero: blocks 332 to 522     -> Done
-case: zero: blocks 332 to 523     -> <none>
+# A disk of two layers of each shape. Of 192 control blocks the first is destroyed, all but the last, and all.
+given: image of 37 sectors | master --sectors 32 --sectors1 5 --shape [parallel, opposite] --zones all \
+--initial [2, 300] --tail [0, 1] makes [519, 562] blocks
+run: info [--initial 2, --form plain --initial=300] -> Done with lines version 1/rate 2/layers 2/\
+path [parallel, opposite]/kind 1/density 1/pitch 0/first 030000/last [03001F, FCFFEF]/layer0 [000000, 03001F]/bca 0
+case: zero: block [34, 332]                 -> Done
+case: zero: blocks [34 to 224, 332 to 522]  -> Done; read: [226, 524] blocks
+case: zero: blocks [34 to 225, 332 to 523]  -> <none>
 
-given: nothing
+run: info --initial 12031 over nothing   -> Short, 0 bytes: short: block 0, 0 bytes
 run: info
 case: 224 blocks of 00                   -> <none>
 case: 224 blocks of 00 | cut off 1 byte  -> Short, 0 bytes: short: block 223, 37855 bytes
 run: info --form marked
 case: 1 marked block and 5 bytes of 00   -> Short, 0 bytes: short: block 1, 5 bytes
-run: info --initial 12031
-case: as given                           -> Short, 0 bytes: short: block 0, 0 bytes
 case: 1 block of 00
-run: info --initial {12032, 4294967295} -> Setting, 0 bytes: setting: initial too long {12032, 4294967295}
+run: info --initial {12032, 4294967295}  -> Setting, 0 bytes: setting: initial too long {12032, 4294967295}
 ";
 
 #[test]

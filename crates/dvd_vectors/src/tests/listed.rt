@@ -12,25 +12,23 @@ name: runs = runs 0:2 546:2184 2731:300 37855:1
 # Of a stream of two blocks the first byte is wrong, or every 300th, 31st or 7th. Each command reads the listed form as
 # both others.
 name: header = listed shape 0 zones 0 sectors 17 and 0 initial 0 tail 16
+name: each = {recover, survey, deep}
 given: image of 17 sectors | recorded | \
 wrong by 55: places [0, 0 to 75711 step 300, 0 to 75711 step 31, 0 to 75711 step 7]
-twin: <header>
-alike: {recover, survey, deep} --sectors 17 = {recover, survey, deep} --form listed
+alike: <each> --sectors 17 = <each> --form listed over given | <header>
 case: <marks>
-twin: <header> <runs>
-alike: {recover, survey, deep} --sectors 17 --form marked = {recover, survey, deep} --form listed
+alike: <each> --sectors 17 --form marked = <each> --form listed over given | <header> <runs>
 
 # The blocks of a disk with every zone and one block of the Initial Zone: up to the first control block, up to the one
 # before it, one, and none. Then the same marks in each of 34 blocks.
 name: whole header = listed shape 0 zones 1 sectors 16 and 0 initial 1 tail 16
+name: both = {info, recover --sectors 16 --zones all} --initial 1 --form marked = {info, recover} --form listed
 given: image of 16 sectors | master --sectors 16 --zones all --initial 1 makes 274 blocks | \
 front [34 blocks, 33 blocks, 1 block, 0 blocks]
 case: marked
-twin: <whole header>
-alike: {info, recover --sectors 16 --zones all} --initial 1 --form marked = {info, recover} --form listed
+alike: <both> over given | <whole header>
 case: <marks>
-twin: <whole header> <runs>
-alike: {info, recover --sectors 16 --zones all} --initial 1 --form marked = {info, recover} --form listed
+alike: <both> over given | <whole header> <runs>
 
 # A stream of a disk of each shape: both commands that read a listed capture give the image of the disk whose layout
 # its header states, and it is surveyed the same. Where every 31st byte is wrong, and the same places as before are
@@ -40,30 +38,24 @@ name: layout = [--sectors 18, --sectors 16 --sectors1 17 --shape parallel --tail
 name: its header = listed shape [0, 1, 2] zones 0 sectors [18 and 0, 16 and 17, 32 and 17] initial [0, 0, 12031] \
 tail [16, 0, 16]
 given: image of [18, 33, 49] sectors | master <layout> makes [2, 3, 4] blocks
+alike: survey <layout> = survey --form listed over given | <its header>
 run: recover --form listed or deep --form listed
 case: <its header> -> Done with image of [18, 33, 49] sectors
-case: as given
-twin: <its header>
-alike: survey <layout> = survey --form listed
 also: wrong by 55: places 0 to [75711, 113567, 151423] step 31
 run: convert --form marked <layout>
 case: <marks> -> Done with given | <its header> <runs>
-twin: <its header> <runs>
-alike: recover --form marked <layout> = recover --form listed
+alike: recover --form marked <layout> = recover --form listed over given | <its header> <runs>
 
 # A block without marks: how its listed capture begins, and how it ends; and the same, of which all places are marked.
 name: one block = listed shape 0 zones 0 sectors 16 and 0 initial 0 tail 16
-given: image of 16 sectors | recorded
-run: convert --sectors 16 -> Done; at 37888 bytes: 0000; \
+run: convert --sectors 16 over image of 16 sectors | recorded -> Done; at 37888 bytes: 0000; \
 at 0 bytes: 4456444543430002000000000000001000000000000000000000001000000000 with given | <one block>
 run: convert --sectors 16 --form marked
 case: marked | doubtful by 00: block 0 -> Done; at 37888 bytes: 0001000093E0 with given | <one block> runs 0:37856
 
 # Streams that aren't whole. The header is written before anything is read.
-given: image of 17 sectors | recorded
-run: convert --sectors 17
-output: given | <header>
-case: then 1 byte of 00                   -> Long: long
+run: convert --sectors 17 over image of 17 sectors | recorded
+case: then 1 byte of 00                   -> Long: long with given | <header>
 case: front 0 bytes                       -> Short, 32 bytes: short: block 0, 0 bytes
 case: cut off 1 byte                      -> Short, 37890 bytes: short: block 1, 37855 bytes
 reads: 40000 bytes a call, call 0 fails   -> ReadFault, 32 bytes: read fault
@@ -102,10 +94,8 @@ case: hex 49F1  -> <bad marks> 37856
 case: hex 49F0  -> Short, 0 bytes: short: block 0, 37858 bytes
 
 # The end of a listed capture of two blocks: a byte too many, no length of the last run, and one that breaks a rule.
-given: image of 17 sectors | recorded | <header> runs 182:3
-run: recover --form listed
-output: image of 17 sectors
-case: then 1 byte of 00                     -> Long: long
+run: recover --form listed over image of 17 sectors | recorded | <header> runs 182:3
+case: then 1 byte of 00                     -> Long: long with image of 17 sectors
 case: cut off 2 bytes                       -> Short, 16 sectors: short: block 1, 37860 bytes
 case: cut off 2 bytes | then 2 bytes of 00  -> BadMarks, 16 sectors: bad marks: block 1, byte 37860
 ";
