@@ -4,8 +4,7 @@ use dvd_trial::{Held, hold};
 
 const CAPTURES: &str = "
 # Two blocks whose frames come in reverse order, and the first one again: what was mastered, without a mark.
-given: image of 17 sectors | recorded | reversed frames | repeat the last 1 frame
-run: assemble --sectors 17 --frames 33
+run: assemble --sectors 17 --frames 33 over image of 17 sectors | recorded | reversed frames | repeat the last 1 frame
 -> Done: placed 33 strays 0/done with image of 17 sectors | recorded | marked
 run: recover --sectors 17 --form marked
 case: assemble --sectors 17 --frames 33 makes 2 marked blocks -> Done with image of 17 sectors
@@ -19,20 +18,16 @@ run: recover <layers> --form marked
 case: assemble <layers> --frames 33 makes 2 marked blocks -> Done with image of 32 sectors
 
 # A frame of zeros is a stray: of the block nothing is known.
-given: 1 frame of 00
-run: assemble --sectors 16 --frames 1
-output: 1 block of 00 | marked | lost: block 0
-                         -> Done: placed 0 strays 1/done
+run: assemble --sectors 16 --frames 1 over 1 frame of 00
+-> Done: placed 0 strays 1/done with 1 block of 00 | marked | lost: block 0
 case: then 1 byte of 00  -> Long: placed 0 strays 1/long
 case: cut off 1 byte     -> Short, 0 bytes: short: frame 0, 2365 bytes
 # In the marked form a frame has 2665 bytes.
-given: 2665 bytes of 00
-run: assemble --sectors 16 --frames 1 --form marked
+run: assemble --sectors 16 --frames 1 --form marked over 2665 bytes of 00
 -> Done: placed 0 strays 1/done with 1 block of 00 | marked | lost: block 0
 
 # Two captures of a block of zeros, of which the first or the second has another byte at place 0, or has lost that.
-given: 2 blocks of 00 | marked
-run: merge --sectors 16 --captures 2 --form marked
+run: merge --sectors 16 --captures 2 --form marked over 2 blocks of 00 | marked
 output: 1 block of 00 | marked | known as 01: row 0, byte 0
 case: known as 01: block {0, 1}, row 0, byte 0 | lost: block {1, 0}, row 0, byte 0  -> Done
 # Of two different bytes neither is believed.
@@ -48,12 +43,10 @@ output: given
 also: front 0 bytes | 16 blocks of 00 | marked | lost: blocks 0 to 15
 also: <bytes> block {0 to 15}, row {0 to 180 step 12}, byte {0 to 165 step 11}
 also: doubtful by 00: bytes 182 to 183
-run: merge --sectors 16 --captures 16 --form marked -> Done
-# The same captures are not enough for two blocks.
+# The same captures are not enough for two blocks. A part of a unit counts with all captures before it.
 run: merge --sectors 17 --captures 16 --form marked -> Short: short: block 1, 0 bytes
-# A part of a unit counts with all captures before it.
-run: merge --sectors 16 --captures 16 --form marked
-case: cut off 1 byte  -> Short, 0 bytes: short: block 0, 682239 bytes
+run: merge --sectors 16 --captures 16 --form marked -> Done
+case: cut off 1 byte                                -> Short, 0 bytes: short: block 0, 682239 bytes
 
 # Two captures of a recording of sixteen blocks, one after the other. Each of them is refused; the lines were
 # computed by another program, which draws the same. Their join is not.

@@ -1,81 +1,60 @@
 //! How much exactly is left after a fault, and the lines. Of several values in braces one after the other is tried.
 //! Then every command over a small input: in pieces of 1, 7, 2047 and 40,000 bytes, where `=>` is written, and with
 //! each call of its input, its output and its report failing in turn; those of `survey`, `info` and `exercise` are in
-//! `survey`, `disks` and `workers`. Each digest was computed by another program.
-//!
-//!
-//! | What is hostile | Module |
-//! |---|---|
-//! | two blocks cut to 0, 1, 37,855, 37,856, 37,857 and 75,711 bytes, or with a byte after them | `recover` |
-//! | a block of which every byte is marked | `recover` |
-//! | a control block, from a disk with all zones, in the place of a data block | `recover` |
-//! | a block of the first of two layers, in the place of one of a disk of one layer | `recover` |
-//! | an input, output or report of which each call fails, over blocks that are whole, cut, long and exchanged | here |
-//! | a report of which the first call fails, before the sectors of a refused block | here |
-//! | an output that keeps nothing | `loops` |
+//! `survey`, `disks` and `workers`. Each digest was computed by another program. Where each call stops it, no stream is
+//! asked for anything more after a failed call, and after a read that met the end of the input, but the report, for the
+//! closing line; and after a fault of the report not even that. Other hostile inputs are in `recover` (blocks cut off,
+//! followed by more, marked in every byte, or of another place or disk) and `loops` (an output that keeps nothing).
 use dvd_trial::{Held, hold};
 
 const FAULTS: &str = "
 # Three reads of 700 bytes make a sector.
-given: 4096 bytes of 00
-run: frames --first 030000 --sectors 2
+run: frames --first 030000 --sectors 2 over 4096 bytes of 00
 output: given | frames --first 030000 --sectors 2 makes 4128 bytes
 reads: 700 bytes a call, call {2, 3, 6} fails        -> ReadFault, {0, 2064, 4128} bytes: read fault
 # Outputs that take so many bytes.
-writes: 1 byte a call, call {0, 1, 2063} fails       -> WriteFault, {0, 1, 2063} bytes: write fault
-writes: 1 byte a call, call {2064, 4127} fails       -> WriteFault, {2064, 4127} bytes: write fault
+writes: 1 byte a call, call {0, 1, 2063, 2064, 4127} fails -> WriteFault, {0, 1, 2063, 2064, 4127} bytes: write fault
 writes: 1 byte a call, call 4128 fails               -> Done
 # Reports that take so many bytes, and the closing line has five.
 reports: 1 byte a call, call 5 fails                 -> Done
 reports: 1 byte a call, call {0, 1, 4} fails         -> ReportFault: {, d, done}..
 
 # Sixteen reads of a sector each make a block.
-given: image of 32 sectors
-run: master --sectors 32
-output: image of 32 sectors | recorded
-reads: 1 sector a call, call {15, 16, 20, 31} fails  -> ReadFault, {0, 1, 1, 1} blocks: read fault
-given: image of 16 sectors | recorded
-run: recover --sectors 16
-output: image of 16 sectors
-reads: 1000 bytes a call, call 5 fails               -> ReadFault, 0 bytes: read fault
-writes: 1000 bytes a call, call 2 fails              -> WriteFault, 2000 bytes: write fault
-writes: 1 byte a call, call 2500 fails               -> WriteFault, 2500 bytes: write fault
+run: master --sectors 32 over image of 32 sectors
+reads: 1 sector a call, call {15, 16, 20, 31} fails -> ReadFault, {0, 1, 1, 1} blocks: read fault with given | recorded
+run: recover --sectors 16 over image of 16 sectors | recorded
+reads: 1000 bytes a call, call 5 fails               -> ReadFault, 0 bytes: read fault with image of 16 sectors
+writes: {1000 bytes, 1 byte} a call, call {2, 2500} fails -> WriteFault, {2000, 2500} bytes: write fault
 reports: 9 bytes a call, call 0 fails                -> ReportFault: ..
 # 208 reads of a row make a block.
-given: image of 32 sectors | recorded
-run: recover --sectors 32
+run: recover --sectors 32 over image of 32 sectors | recorded
 output: image of 32 sectors
 reads: 1 row a call, call {207, 208, 300, 415} fails -> ReadFault, {0, 16, 16, 16} sectors: read fault
 
 # The line of a refused block goes out before its sectors, which are zeros.
 name: no address = layer 0: address 0 found 00000000 saved 0
-given: 1 block of 00
-run: recover --sectors 16
-output: 16 sectors of 00
--> Damaged: block 0 sector 030000 <no address>/damaged: 1 blocks
-writes: 1 sector a call, call {0, 5} fails \
--> WriteFault, {0, 5} sectors: block 0 sector 030000 <no address>/write fault
+run: recover --sectors 16 over 1 block of 00
+-> Damaged: block 0 sector 030000 <no address>/damaged: 1 blocks with 16 sectors of 00
+writes: 1 sector a call, call {0, 5} fails -> WriteFault, {0, 5} sectors: block 0 sector 030000 <no address>/write fault
 reports: {64, 10} bytes a call, call {0, 1} fails    -> ReportFault, 0 sectors: {, block 0 se}..
 reports: 64 bytes a call, call 1 fails               -> ReportFault: block 0 sector 030000 <no address>/..
 # A disk of two blocks, of which one is recorded.
-given: image of 16 sectors | recorded | then 1 block of 00
-run: recover --sectors 32
+run: recover --sectors 32 over image of 16 sectors | recorded | then 1 block of 00
 output: image of 16 sectors
 writes: 1 sector a call, call 16 fails               -> WriteFault: block 1 sector 030010 <no address>/write fault
 reports: 64 bytes a call, call 0 fails               -> ReportFault: ..
 
 # Two blocks, and an image that ends within the second one.
-given: image of 17 sectors
-run: master --sectors 17 or master --sectors 17 --workers 5 or master --sectors 17 --workers 16
+run: master --sectors 17 or master --sectors 17 --workers 5 or master --sectors 17 --workers 16 over image of 17 sectors
 => Done, 2 blocks; digest: E72C18C8A280B741A3163FA45B59ACB1854E77AC43A64B8C23638295A634C02A
 all fail in turn: 9 reads of 5000 bytes, 16 writes of 5000 bytes, 1 report of 7 bytes
+each call stops it: 8 calls of 5000 bytes
 case: front 32773 bytes  => Short, 1 block: short: block 1, 5 bytes
 all fail in turn: 9 reads of 5000 bytes, 8 writes of 5000 bytes, 4 reports of 7 bytes
 
 # Both blocks, the same without the last byte, and with one more.
-given: image of 17 sectors | recorded
 run: recover --sectors 17 or recover --form plain --sectors 17 \
-or recover --sectors 17 --workers 5 or recover --sectors 17 --workers 16
+or recover --sectors 17 --workers 5 or recover --sectors 17 --workers 16 over image of 17 sectors | recorded
 output: image of 17 sectors
 => Done, 17 sectors; digest: 821668C219648D7615F82E4B86593C1CF57D7E05FB1A5D71ABEF9E28059A6162
 all fail in turn: 17 reads of 5000 bytes, 17 writes of 5000 bytes, 1 report of 7 bytes
@@ -85,29 +64,27 @@ case: then 1 byte of 55  => Long: long
 all fail in turn: 17 reads of 5000 bytes, 17 writes of 5000 bytes, 1 report of 7 bytes
 
 # Two blocks, the second before the first: zeros.
-given: image of 32 sectors | recorded | from 1 block
-run: recover --sectors 32
+run: recover --sectors 32 over image of 32 sectors | recorded | from 1 block
 output: 32 sectors of 00
 => Damaged: block (0, 1) sector 0300(0, 1)0 layer 0: address 0 found 000300(1, 0)0 saved 0/damaged: 2 blocks
 all fail in turn: 17 reads of 5000 bytes, 32 writes of 5000 bytes, 23 reports of 7 bytes
 
-given: image of 2 sectors
-run: frames --first 030000 --sectors 2
+run: frames --first 030000 --sectors 2 over image of 2 sectors
 => Done, 4128 bytes; digest: E5FA46EFBFA66147C8E3190FC0F94B28730E6829799EAA1DFE3EB74B9EDD77DE
 all fail in turn: 7 reads of 700 bytes, 6 writes of 1000 bytes, 3 reports of 2 bytes
+each call stops it: 7 calls of 700 bytes
 run: cdmake --address 150 --sectors 2
 => Done, 4704 bytes; digest: F0FA618E2827769A710ACCC1A39D65886CFFAB0A3E0B2FF3F214FD80E0C7D321
 all fail in turn: 7 reads of 700 bytes, 6 writes of 1000 bytes, 3 reports of 2 bytes
+each call stops it: 7 calls of 700 bytes
 # Two sectors of zeros, which are of no mode.
-given: 4704 bytes of 00
-run: cdread --address 150 --sectors 2
-output: 4096 bytes of 00
-=> Damaged: sector (0, 1): mode 0/damaged: 2 sectors
+run: cdread --address 150 --sectors 2 over 4704 bytes of 00
+=> Damaged: sector (0, 1): mode 0/damaged: 2 sectors with 4096 bytes of 00
 all fail in turn: 5 reads of 2000 bytes, 6 writes of 1000 bytes, 9 reports of 7 bytes
+each call stops it: 6 calls of 2000 bytes
 
 # Two blocks that differ nearly everywhere, taken for two captures of one.
-given: image of 17 sectors | recorded
-run: merge --sectors 16 --captures 2
+run: merge --sectors 16 --captures 2 over image of 17 sectors | recorded
 => Done, 42640 bytes; digest: E6D85C77DF15C8CA1B9DF398691A564A8521F6F70EE84BE05FC90E6E014EE883
 all fail in turn: 17 reads of 5000 bytes, 9 writes of 5000 bytes, 1 report of 7 bytes
 # The header, and of each block its rows and the number of its runs, none.
@@ -118,35 +95,16 @@ run: deep --sectors 17   => Done with image of 17 sectors
 all fail in turn: 17 reads of 5000 bytes, 17 writes of 5000 bytes, 1 report of 7 bytes
 # The frames of two blocks from the ninth on, those before it after them; the disk has the first block alone.
 run: assemble --sectors 16 --frames 32
-output: given | front 1 block | marked
-case: from 8 frames      => Done: placed 16 strays 16/done
+case: from 8 frames      => Done: placed 16 strays 16/done with given | front 1 block | marked
 all fail in turn: 33 reads of 5000 bytes, 9 writes of 5000 bytes, 4 reports of 7 bytes
 
-# After a failed call, and after a read that met the end of the input, no stream is asked for anything more but the
-# report, for the closing line; and after a fault of the report not even that.
-given: image of 2 sectors
-run: frames --first 030000 --sectors 2 or cdmake --address 150 --sectors 2
-each call stops it: 7 calls of 700 bytes
-given: image of 17 sectors
-run: master --sectors 17
-each call stops it: 8 calls of 5000 bytes
 # The second of three blocks is beyond the bound.
 given: image of 33 sectors | recorded | wrong by 5A: block 1, bytes 0 to 160 step 16
 run: recover --sectors 33 or deep --sectors 33 or survey --sectors 33 or merge --sectors 16 --captures 3 \
 or convert --sectors 33 or assemble --sectors 33 --frames 48
 each call stops it: 7 calls of 20000 bytes
-given: image of 33 sectors | recorded | convert --sectors 33 makes 113606 bytes
-run: recover --form listed
+run: recover --form listed over image of 33 sectors | recorded | convert --sectors 33 makes 113606 bytes
 each call stops it: 7 calls of 20000 bytes
-given: image of 16 sectors | master --sectors 16 --zones all makes 273 blocks | front 34 blocks
-run: info
-each call stops it: 4 calls of 37856 bytes
-given: nothing
-run: exercise --seed 0 --blocks 1
-each call stops it: 7 calls of 9 bytes
-given: 4704 bytes of 00
-run: cdread --address 150 --sectors 2
-each call stops it: 6 calls of 2000 bytes
 ";
 
 #[test]

@@ -6,15 +6,13 @@ const ENDS: &str = "
 # The first sector after the pause of two seconds, of zeros and of counted bytes: how it begins; and its EDC and
 # parities. It is what the sector library of the program wodim makes (libedc of cdrkit 1.1.11), and a program that was
 # made from the standard alone.
-given: 1 sector of 00
-run: cdmake --address 150 --sectors 1 -> Done, 2352 bytes; at 0 bytes: 00FFFFFFFFFFFFFFFFFFFF0000020001; \
-digest: B4F18AB66709C9B3FDEF2721CC323E031B6728F3CA6C57B7C435C96189222250
+run: cdmake --address 150 --sectors 1 over 1 sector of 00 -> Done, 2352 bytes; \
+at 0 bytes: 00FFFFFFFFFFFFFFFFFFFF0000020001; digest: B4F18AB66709C9B3FDEF2721CC323E031B6728F3CA6C57B7C435C96189222250
 given: counted sector -> Done, 2352 bytes; at 2064 bytes: A2CA36EC; at 2076 bytes: D224CD3B; at 2248 bytes: 59717CF6; \
 digest: 535D2B4AE3C6B5DCF3BE1B3145BDBE0C678083982DFBC781C55BA14729896B47
 
 # Frames of sectors of zeros.
-given: nothing
-run: frames --first 030000 --sectors 1
+run: frames --first 030000 --sectors 1 over nothing
 case: 2048 bytes of 00       => Done, 2064 bytes; at 0 bytes: 00030000111200000000000001002204; at 2060 bytes: 02AEBAF1
 case: {0, 2047} bytes of 00  => Short, 0 bytes: short: sector 0, {0, 2047} bytes
 case: 2049 bytes of 00       => Long, 2064 bytes: long; at 0 bytes: 00030000
@@ -24,29 +22,26 @@ run: frames --first 030010 --sectors 1 => Done, 2064 bytes; at 0 bytes: 00030010
 run: frames --sectors 0000000001 --first fFfFfF => Done, 2064 bytes; at 0 bytes: 00FFFFFF
 
 # CD-ROM sectors, over so many zeros.
+run: cdmake --address 449999 --sectors 2  -> Usage, 0 bytes: usage
 run: cdmake --address 150 --sectors 1
-case: 2047 bytes of 00  -> Short, 0 bytes: short: sector 0, 2047 bytes
-case: 2049 bytes of 00  -> Long, 2352 bytes: long
-run: cdmake --address 0 --sectors 450000
-case: 2050 bytes of 00  -> Short, 2352 bytes: short: sector 1, 2 bytes
-run: cdmake --address 449999 --sectors 2
-case: 2048 bytes of 00  -> Usage, 0 bytes: usage
-run: cdread --address 150 --sectors 1
+case: 2047 bytes of 00       -> Short, 0 bytes: short: sector 0, 2047 bytes
+case: 2049 bytes of 00       -> Long, 2352 bytes: long
+case: 2050 bytes of 00
+run: cdmake --address 0 --sectors 450000  -> Short, 2352 bytes: short: sector 1, 2 bytes
 output: 4096 bytes of 00
+case: 2353 bytes of 00
+run: cdread --address 0 --sectors 450000  -> Short, 2048 bytes: sector 0: mode 0/short: sector 1, 1 bytes
+run: cdread --address 150 --sectors 1     -> Long, 2048 bytes: sector 0: mode 0/long
 case: {0, 2351} bytes of 00  -> Short, 0 bytes: short: sector 0, {0, 2351} bytes
-case: 2352 bytes of 00  -> Damaged, 2048 bytes: sector 0: mode 0/damaged: 1 sectors
-case: 2353 bytes of 00  -> Long, 2048 bytes: sector 0: mode 0/long
-run: cdread --address 0 --sectors 450000 -> Short, 2048 bytes: sector 0: mode 0/short: sector 1, 1 bytes
-run: cdread --address 449998 --sectors 2
-case: 4704 bytes of 00  -> Damaged: sector (0, 1): mode 0/damaged: 2 sectors
-run: cdread --address 449999 --sectors 2 or cdread --address 150 --sectors 1 --form plain
-case: 2352 bytes of 00  -> Usage, 0 bytes: usage
+case: 2352 bytes of 00       -> Damaged, 2048 bytes: sector 0: mode 0/damaged: 1 sectors
+run: cdread --address 449999 --sectors 2 or cdread --address 150 --sectors 1 --form plain -> Usage, 0 bytes: usage
+case: 4704 bytes of 00
+run: cdread --address 449998 --sectors 2  -> Damaged: sector (0, 1): mode 0/damaged: 2 sectors
 
 # A sector of another address: of zeros, and of counted bytes.
 run: cdread --address 151 --sectors 1
-output: 1 sector of 00
 case: {1 sector of 00, counted sector} | cdmake --address 150 --sectors 1 makes 2352 bytes \
--> Damaged: sector 0: address found 000200/damaged: 1 sectors
+-> Damaged: sector 0: address found 000200/damaged: 1 sectors with 1 sector of 00
 
 # Of the first sector all bytes of one P word in each half are wrong, of the second one a thousand bytes, of the third
 # one the sync and a byte of each half after it. The second one is damaged among good ones.
@@ -54,14 +49,12 @@ given: image of 4 sectors | cdmake --address 4498 --sectors 4 makes 9408 bytes |
 wrong by FF: cdsector 0, bytes 22 to 2172 step 86 | wrong by 5A: cdsector 0, bytes 97 to 2247 step 86 | \
 wrong by 55: cdsector 1, bytes 1000 to 1999 | wrong by 33: cdsector 2, bytes 0 to 13
 run: cdread --address 4498 --sectors 4
-output: image of 4 sectors | zero: sector 1
--> Damaged: sector 1: parity 0/damaged: 1 sectors
+-> Damaged: sector 1: parity 0/damaged: 1 sectors with image of 4 sectors | zero: sector 1
 
 # The largest disks.
-given: 5 bytes of 00
 run: master --sectors 8191744 or recover --sectors 8191744 or recover --form marked --sectors 8191744 \
-or survey --sectors 8191744 or info --initial 12031 or merge --sectors 8191744 --captures 16 or deep --sectors 8191744
--> Short, 0 bytes: short: block 0, 5 bytes
+or survey --sectors 8191744 or info --initial 12031 or merge --sectors 8191744 --captures 16 or deep --sectors 8191744 \
+over 5 bytes of 00 -> Short, 0 bytes: short: block 0, 5 bytes
 run: frames --first 000000 --sectors 16777216 or cdmake --address 0 --sectors 450000 \
 or cdread --address 0 --sectors 450000 -> Short, 0 bytes: short: sector 0, 5 bytes
 run: assemble --sectors 16384 --frames 4294967295 -> Short, 0 bytes: short: frame 0, 5 bytes

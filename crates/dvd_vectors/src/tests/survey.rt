@@ -3,8 +3,7 @@
 use dvd_trial::{Held, hold};
 
 const SURVEYS: &str = "
-given: image of 16 sectors | recorded
-run: survey --sectors 16
+run: survey --sectors 16 over image of 16 sectors | recorded
 => Done with lines block 0 sector 030000 layer 0 pi 0 failed 0 sum8 0: whole/\
 blocks 1 pi 0 failed 0 damaged 0 peak 0 at 0 over 0
 all fail in turn: 9 reads of 5000 bytes, 4 writes of 50 bytes, 3 reports of 2 bytes
@@ -12,22 +11,17 @@ run: survey --sectors 17                -> Short, 58 bytes: short: block 1, 0 by
 run: survey --sectors 16 --form marked  -> Short, 0 bytes: short: block 0, 37856 bytes
 
 # Zeros, which have no errors and no address.
-given: 1 block of 00
-run: survey --sectors 16
+run: survey --sectors 16 over 1 block of 00
 output: lines block 0 sector 030000 layer 0 pi 0 failed 0 sum8 0: address 0 found 00000000/\
 blocks 1 pi 0 failed 0 damaged 1 peak 0 at 0 over 0
                          -> Damaged: damaged: 1 blocks
 case: then 1 byte of 00  -> Long: long
 
 # A row with a mark has an error: 141 rows of each block, and 140.
-given: image of 32 sectors | recorded | marked
-run: survey --sectors 32 --form marked
-case: doubtful by 00: rows 0 to 140, byte 0 -> Done with lines \
-block (0, 1) sector 0300(0, 1)0 layer 0 pi 141 failed 0 sum8 (141, 282): whole/\
-blocks 2 pi 282 failed 0 damaged 0 peak 282 at 1 over 1
-case: doubtful by 00: rows 0 to 139, byte 0 -> Done with lines \
-block (0, 1) sector 0300(0, 1)0 layer 0 pi 140 failed 0 sum8 (140, 280): whole/\
-blocks 2 pi 280 failed 0 damaged 0 peak 280 at 1 over 0
+run: survey --sectors 32 --form marked over image of 32 sectors | recorded | marked
+case: doubtful by 00: rows 0 to {140, 139}, byte 0 -> Done with lines \
+block (0, 1) sector 0300(0, 1)0 layer 0 pi {141, 140} failed 0 sum8 ({141, 140}, {282, 280}): whole/\
+blocks 2 pi {282, 280} failed 0 damaged 0 peak {282, 280} at 1 over {1, 0}
 
 # A burst over three blocks, of which 90, 208 and 45 rows have a wrong byte, is seen by eight blocks each.
 given: image of 192 sectors | recorded | wrong by FF: block 2, rows 0 to 89, byte 0 shifted 1; \
@@ -40,8 +34,8 @@ blocks 12 pi 343 failed 0 damaged 0 peak 343 at 4 over 7
 
 # The totals of a disk of two layers with every zone.
 name: disk = --sectors 16 --sectors1 5 --shape opposite --zones all --tail 1
-given: image of 21 sectors | master <disk> makes 261 blocks
-run: survey <disk> -> Done, 15604 bytes; last line: blocks 261 pi 0 failed 0 damaged 0 peak 0 at 0 over 0
+run: survey <disk> over image of 21 sectors | master <disk> makes 261 blocks
+-> Done, 15604 bytes; last line: blocks 261 pi 0 failed 0 damaged 0 peak 0 at 0 over 0
 
 # A disk of 528 blocks as a rescuer meets it: a burst over forty blocks, of which marked rows are lost, and wrong
 # bytes in every eighth row of all others, which nothing marks. The SHA-256 is of the lines, which another program
