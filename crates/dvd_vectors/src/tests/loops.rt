@@ -13,80 +13,62 @@ use std::thread::Threads;
 
 // What the arguments ask for, where that is one worker, as without an option. The clause is what the loops require of
 // the number of workers.
-fn settings(alloc: Global, text: &str) -> Option<Settings>
+fn asked(alloc: Global, text: &str) -> Option<Settings>
     ensures { IfSome result (λ settings. (1 ≤ settings.workers) × (settings.workers ≤ 16)) }
 {
     let settings = dvd_words::read(alloc, &words_of(alloc, text)?).ok()?;
-    if settings.workers == 1 {
-        Some(settings)
-    } else {
-        None
-    }
+    (settings.workers == 1).then_some(settings)
 }
 
-fn master<R: AllocGlobal + Threads + Sync>(
-    rt: &R,
-    image: &[u8],
-    output: &mut MemSink,
-) -> Option<LoopEnd> {
-    let settings = settings(rt.alloc(), "master --sectors 17 --zones all")?;
+// Whether the loop of `master` is done.
+fn master<R: AllocGlobal + Threads + Sync>(rt: &R, image: &[u8], out: &mut MemSink) -> Option<()> {
+    let settings = asked(rt.alloc(), "master --sectors 17 --zones all")?;
     let layout = settings.layout().ok()?;
     let mut block = Block::new(rt.alloc()).ok()?;
     let mut piece = Piece::new(rt.alloc()).ok()?;
     let source = &mut SliceSource::new(image);
     let (block, piece) = (&mut block, &mut piece);
-    Some(master_loop(
-        rt, &settings, &layout, &OpenGate, block, piece, source, output,
-    ))
+    let end = master_loop(rt, &settings, &layout, &OpenGate, block, piece, source, out);
+    (end == LoopEnd::Done).then_some(())
 }
 
+// Whether the loop of `recover` is done.
 fn recover<R: AllocGlobal + Threads + Sync>(
     rt: &R,
     work: &mut Work,
     disk: &[u8],
-    output: &mut MemSink,
+    out: &mut MemSink,
     report: &mut MemSink,
-) -> Option<LoopEnd> {
-    let settings = settings(rt.alloc(), "recover --sectors 17 --zones all")?;
+) -> Option<()> {
+    let settings = asked(rt.alloc(), "recover --sectors 17 --zones all")?;
     let layout = settings.layout().ok()?;
     let source = &mut SliceSource::new(disk);
-    Some(recover_loop(
-        rt, &settings, &layout, &OpenGate, work, source, output, report,
-    ))
+    let end = recover_loop(rt, &settings, &layout, &OpenGate, work, source, out, report);
+    (end == LoopEnd::Done).then_some(())
 }
 
-// The same status and report as of an output that keeps all.
-fn recovers_to_nothing<R: AllocGlobal + Threads + Sync>(rt: &R) -> Option<bool> {
-    let words = words_of(rt.alloc(), "recover --sectors 17")?;
-    let disk = bytes_of(rt, "image of 17 sectors | recorded")?;
-    let source = &mut SliceSource::new(&disk);
-    let mut report = MemSink::new(rt.alloc(), 80, 80, Vec::new(rt.alloc())).ok()?;
-    let (sink, lines) = (&mut NullSink::new(), &mut report);
-    let status = run(rt, rt.alloc(), &words, &OpenGate, source, sink, lines);
-    Some(status == Status::Done && report.held() == b"done\n".as_slice())
-}
-
-fn all_hold<R: AllocGlobal + Threads + Sync>(rt: &R) -> Option<bool> {
+// The report is that of the run alone: the loop reports nothing of a disk without damage. An output that keeps nothing
+// changes neither the status nor the report. None is also want of memory.
+fn all_hold<R: AllocGlobal + Threads + Sync>(rt: &R) -> Option<()> {
     let alloc = rt.alloc();
     let image = bytes_of(rt, "image of 17 sectors")?;
-    let words = "image of 17 sectors | master --sectors 17 --zones all makes 274 blocks";
-    let disk = bytes_of(rt, words)?;
+    let steps = "image of 17 sectors | master --sectors 17 --zones all makes 274 blocks";
+    let disk = bytes_of(rt, steps)?;
     let mut recorded = MemSink::new(alloc, 274 * 37_856, 40_000, Vec::new(alloc)).ok()?;
     let mut output = MemSink::new(alloc, 17 * 2048, 40_000, Vec::new(alloc)).ok()?;
     let mut report = MemSink::new(alloc, 80, 80, Vec::new(alloc)).ok()?;
     let mut work = Work::new(alloc).ok()?;
-    let are_done = master(rt, &image, &mut recorded)? == LoopEnd::Done
-        && recover(rt, &mut work, &disk, &mut output, &mut report)? == LoopEnd::Done;
+    master(rt, &image, &mut recorded)?;
+    recover(rt, &mut work, &disk, &mut output, &mut report)?;
+    let words = words_of(alloc, "recover --sectors 17 --zones all")?;
+    let (source, sink) = (&mut SliceSource::new(&disk), &mut NullSink::new());
+    let status = run(rt, alloc, &words, &OpenGate, source, sink, &mut report);
     let are_right = recorded.held() == disk.as_slice() && output.held() == image.as_slice();
-    let are_all = are_done && are_right && report.held().is_empty();
-    Some(are_all && recovers_to_nothing(rt)?)
+    let is_reported = status == Status::Done && report.held() == b"done\n".as_slice();
+    (are_right && is_reported).then_some(())
 }
 
 #[test]
 fn the_loops_record_as_the_command_does_and_read_back(rt: HostRuntime) -> Held {
-    match all_hold(&rt) {
-        Some(true) => Ok(()),
-        Some(false) => Err("a loop ends otherwise, or leaves other bytes"),
-        None => Err("no memory, or no such disk"),
-    }
+    all_hold(&rt).ok_or("a loop or the run ends otherwise, or leaves other bytes")
 }
