@@ -1,7 +1,7 @@
 //! Texts that don't hold: what is misspelt isn't passed over, and each part of what comes counts.
 use dvd_trial::{Held, fails};
 
-static FAILING: [&str; 25] = [
+static FAILING: [&str; 27] = [
     "given: 5 bytes of 00 | zeros: sector 0",
     "given: 1 block of 00 | zero: blok 2",
     "given: 1 block of 00 | zero: row 5 too 6",
@@ -28,6 +28,8 @@ all fail in turn: 3 reads of 700 bytes",
     "given: nothing\nrun: {x, y} -> Usage, 0 bytes: {usage, none}",
     "given: nothing\nrun: x -> Usage, 0 bytes: (usage, none)",
     "name: one = byte of 00\ngiven: 1 <two>",
+    "run: x over 5 bites of 00 -> Usage, 0 bytes: usage",
+    "given: nothing\nalike: x = x",
 ];
 
 #[test]
