@@ -10,7 +10,7 @@ use Rattle.dvd_ports.specs.Causes.{HasFailed, HasGoneOn}
 use Rattle.dvd_ports.specs.Seen.{Seen}
 use Rattle.dvd_ports.specs.Whole.{AppendsPrefix}
 use Rattle.cap_interleave.specs.Blocks.{CaptureBytes, Task, capture_block, unit_bytes, units_of}
-use Rattle.cap_interleave.specs.Inner.{AreReadTo, BuffersState, ChecksTo, EndsBroken, GivesBlock, HasFailedAt, IsTurn, SomeCame, filled_blocks, fresh, task_of}
+use Rattle.cap_interleave.specs.Inner.{AreReadTo, BuffersState, ChecksTo, EndsBroken, GivesBlock, HasFailedAt, IsUnitInterleaved, SomeCame, filled_blocks, fresh, task_of}
 use Rattle.cap_interleave.specs.Interleaved.{AreDue, EndsInterleave, Gives, HasFailedWithin, HasGiven, HaveSome, IsCutWithin, IsFirstShort, IsInterleaved, Writes}
 use Rattle.cap_interleave.specs.declared.ends.InterleaveEnd.{InterleaveEnd}
 use Rattle.cap_interleave.specs.declared.ends.InterleaveEnd.TheVariants.{Done, Long, ReadFault, Short, WriteFault}
@@ -244,9 +244,9 @@ module _ {S : Type 0} (seen : S → Seen) (task : Task) (k : ℕ) (b : BuffersSt
     ends = inside_is;
   }
 
--- a turn that ends the loop
+-- an iteration that ends the loop
 pub finishes : {S : Type 0} (seen : S → Seen) (task : Task) (k : ℕ) (b b2 : BuffersState) (olds mids news : List S) (old mid new : Seen) (end : InterleaveEnd)
-    → IsAfter seen task k b olds mids old mid → k < 2 ^ 32 → IsTurn seen k b b2 mids news mid new (Err end) → IsInterleaved seen task olds news old new end
+    → IsAfter seen task k b olds mids old mid → k < 2 ^ 32 → IsUnitInterleaved seen k b b2 mids news mid new (Err end) → IsInterleaved seen task olds news old new end
 finishes seen task k b b2 olds mids news old mid new Done a few (r, check, same) =
     subst (λ s. IsInterleaved seen task olds news old s Done) (sym same) (done seen task k b b2 olds mids news old mid a r few check)
 finishes seen task k b b2 olds mids news old mid new (Short c j bytes) a few (r, check, same) =
@@ -269,9 +269,9 @@ long seen task b olds news old new a = record {
   ends = refl;
 }
 
--- a turn that ends within its reads, or where its captures end
+-- an iteration that ends within its reads, or where its captures end
 pub broken_turn : {S : Type 0} (seen : S → Seen) (k : ℕ) (b b2 : BuffersState) (mids news : List S) (old : Seen) (end : InterleaveEnd) → EndsBroken seen b mids news end
-    → IsTurn seen k b b2 mids news old old (Err end)
+    → IsUnitInterleaved seen k b b2 mids news old old (Err end)
 broken_turn seen k b b2 mids news old (ReadFault n) broken = (broken, refl)
 broken_turn seen k b b2 mids news old Done broken = absurd broken
 broken_turn seen k b b2 mids news old (Short c j bytes) broken = absurd broken
@@ -279,7 +279,7 @@ broken_turn seen k b b2 mids news old WriteFault broken = absurd broken
 broken_turn seen k b b2 mids news old Long broken = absurd broken
 
 pub checked_turn : {S : Type 0} (seen : S → Seen) (k : ℕ) (b b2 : BuffersState) (mids news : List S) (old : Seen) (end : InterleaveEnd) → AreReadTo seen (length mids) b b2 mids news
-    → ChecksTo b2 k (Err end) → IsTurn seen k b b2 mids news old old (Err end)
+    → ChecksTo b2 k (Err end) → IsUnitInterleaved seen k b b2 mids news old old (Err end)
 checked_turn seen k b b2 mids news old Done r check = (r, check, refl)
 checked_turn seen k b b2 mids news old (Short c j bytes) r check = (r, check, refl)
 checked_turn seen k b b2 mids news old (ReadFault n) r check = absurd check

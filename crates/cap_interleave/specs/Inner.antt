@@ -96,11 +96,11 @@ ChecksTo buffers k (Err (Short c block bytes)) =
 ChecksTo buffers k (Err end) = ⊥
 
 -- Block k of each capture is read and written, or the loop ends there.
-abbrev pub IsTurn : {S : Type 0} → (S → Seen) → ℕ → BuffersState → BuffersState → List S → List S → Seen → Seen → Result (Unit {0}) InterleaveEnd → Type 0
-IsTurn seen k old new olds news before after (Ok value) =
+abbrev pub IsUnitInterleaved : {S : Type 0} → (S → Seen) → ℕ → BuffersState → BuffersState → List S → List S → Seen → Seen → Result (Unit {0}) InterleaveEnd → Type 0
+IsUnitInterleaved seen k old new olds news before after (Ok value) =
     AreReadTo seen (length olds) old new olds news × ChecksTo new k (Ok value) × Appends before.bytes after.bytes new.unit × HasGoneOn before after
-IsTurn seen k old new olds news before after (Err (ReadFault b)) = HasFailedAt seen b old olds news × (after ≡ before)
-IsTurn seen k old new olds news before after (Err WriteFault) =
+IsUnitInterleaved seen k old new olds news before after (Err (ReadFault b)) = HasFailedAt seen b old olds news × (after ≡ before)
+IsUnitInterleaved seen k old new olds news before after (Err WriteFault) =
     AreReadTo seen (length olds) old new olds news × ChecksTo new k (Ok tt) × AppendsPrefix before.bytes after.bytes new.unit × HasFailed before after
-IsTurn seen k old new olds news before after (Err end) =
+IsUnitInterleaved seen k old new olds news before after (Err end) =
     AreReadTo seen (length olds) old new olds news × ChecksTo new k (Err end) × (after ≡ before)

@@ -1,7 +1,7 @@
 //! The loop over the blocks of several captures. It has several inputs, so that the loop of dvd_loop doesn't serve it.
 //! A unit is block `k` of each capture, counted from 0. Of a capture that has ended no byte comes.
 ghost use Rattle.std.specs.Prelude.{◌≡◌, ◌≤◌, length, IfErr, OnOk};
-ghost use Rattle.cap_interleave.specs.Inner.{AreReadTo, EndsBroken, IsTurn, fresh, task_of};
+ghost use Rattle.cap_interleave.specs.Inner.{AreReadTo, EndsBroken, IsUnitInterleaved, fresh, task_of};
 ghost use Rattle.cap_interleave.specs.Interleaved.{IsInterleaved};
 
 use crate::buffers::Buffers;
@@ -21,9 +21,10 @@ pub fn interleave_loop<S: Source, K: Sink>(
     requires few { length captures.old ≤ 16 }
     ensures { IsInterleaved S.seen (task_of buffers.old) captures.old captures.new (K.seen out.old) (K.seen out.new) result }
 {
-    // `turn` answers the other ends. A block number has 32 bits, so that captures without end come to `Long`.
+    // `interleave_unit` answers the other ends. A block number has 32 bits, so that captures without end come to
+    // `Long`.
     for k in 0..u32::MAX {
-        if let Err(end) = turn(k, buffers, captures, out) {
+        if let Err(end) = interleave_unit(k, buffers, captures, out) {
             return end;
         }
     }
@@ -33,7 +34,7 @@ pub fn interleave_loop<S: Source, K: Sink>(
 // Writes block `k` of each capture, or answers how the loop ends. All are read, and their lengths checked, before
 // anything is written. So the output has a block of each or of none, but for a first part where the write fails. Where
 // the captures end, the end comes from `check`, which names block `k` if one of them is short.
-fn turn<S: Source, K: Sink>(
+fn interleave_unit<S: Source, K: Sink>(
     k: u32,
     buffers: &mut Buffers,
     captures: &mut [S],
@@ -41,7 +42,7 @@ fn turn<S: Source, K: Sink>(
 ) -> Result<(), InterleaveEnd>
     requires count { length captures.old ≡ length buffers.old.held }
     requires few { length captures.old ≤ 16 }
-    ensures { IsTurn S.seen k buffers.old buffers.new captures.old captures.new (K.seen out.old) (K.seen out.new) result }
+    ensures { IsUnitInterleaved S.seen k buffers.old buffers.new captures.old captures.new (K.seen out.old) (K.seen out.new) result }
 {
     read_unit(buffers, captures)?;
     buffers.check(k)?;

@@ -97,7 +97,7 @@ fn mark_byte(spans: &[Span], start: u64, place: u64) -> u8
 }
 
 // The first place of eight is the highest bit, as in the marked form: each mark moves those before it up. The number
-// has 16 bits, so that one bound serves all eight turns.
+// has 16 bits, so that one bound serves all eight iterations.
 fn with_mark(byte: u16, mark: bool) -> u16
     requires { byte < 2 ^ 15 }
     ensures { result ≡ 2 * byte + bit_of mark }

@@ -11,9 +11,9 @@ use Rattle.coding.specs.Words.{IsByte, IsCodeword, value}
 use Rattle.gf_field.proofs.FieldLaws.{product-byte, product-comm, product-zero}
 use Rattle.coding.specs.Distance.{weight}
 use Rattle.coding.specs.Filling.{marked}
-use Rattle.rs_code.specs.Inner.Polynomials.{sum_of, scaled}
+use Rattle.rs_code.specs.Inner.Polynomials.{sum_of, mul_scalar}
 use Rattle.rs_code.proofs.Distance.{IsCodeword-light, IsCodeword-sum_of}
-use Rattle.rs_code.proofs.Values.{value-nil, value-cons, value-scaled, value-zeros, length-scaled}
+use Rattle.rs_code.proofs.Values.{value-nil, value-cons, value-mul_scalar, value-zeros, length-mul_scalar}
 use Rattle.coding.specs.Product.{line, column}
 
 -- the zero word
@@ -25,17 +25,17 @@ IsCodeword-zeros n r = record {
 }
 
 -- a multiple of a word is one of bytes
-scaled_bytes : (factor : ℕ) (word : List ℕ) → All IsByte (scaled factor word)
-unfolding scaled
+scaled_bytes : (factor : ℕ) (word : List ℕ) → All IsByte (mul_scalar factor word)
+unfolding mul_scalar
 scaled_bytes factor [] = All-nil IsByte
-scaled_bytes factor (byte ∷ word) = All-cons IsByte (product factor byte) (scaled factor word) (product-byte factor byte) (scaled_bytes factor word)
+scaled_bytes factor (byte ∷ word) = All-cons IsByte (product factor byte) (mul_scalar factor word) (product-byte factor byte) (scaled_bytes factor word)
 
 -- a codeword times a factor
-IsCodeword-scaled : (n r factor : ℕ) (word : List ℕ) → IsCodeword n r word → IsCodeword n r (scaled factor word)
-IsCodeword-scaled n r factor word codeword = record {
-  size = length-scaled factor word ∙ codeword.size;
+IsCodeword-mul_scalar : (n r factor : ℕ) (word : List ℕ) → IsCodeword n r word → IsCodeword n r (mul_scalar factor word)
+IsCodeword-mul_scalar n r factor word codeword = record {
+  size = length-mul_scalar factor word ∙ codeword.size;
   bytes = scaled_bytes factor word;
-  vanishes = λ k below. value-scaled factor word (power alpha k) ∙ ap (product factor) (codeword.vanishes k below) ∙ product-zero factor;
+  vanishes = λ k below. value-mul_scalar factor word (power alpha k) ∙ ap (product factor) (codeword.vanishes k below) ∙ product-zero factor;
 }
 
 -- rows of one width
@@ -67,8 +67,8 @@ column-tails ((byte ∷ row) ∷ block) j = ap (λ (l : List ℕ). get_or row j 
 
 -- the first column counts with the highest power
 values-split : (width x : ℕ) (block : List (List ℕ)) → IsWide (suc width) block
-    → values x block ≡ sum_of (scaled (power x width) (column block 0)) (values x (tails block))
-unfolding IsWide values tails sum_of scaled
+    → values x block ≡ sum_of (mul_scalar (power x width) (column block 0)) (values x (tails block))
+unfolding IsWide values tails sum_of mul_scalar
 values-split width x [] wide = refl
 values-split width x ([] ∷ block) wide = absurd (omega (arith, wide.0))
 values-split width x ((byte ∷ row) ∷ block) wide =
@@ -92,8 +92,8 @@ IsCodeword-values zero n r x block height wide columns =
     subst (IsCodeword n r) (sym (values-none x block wide ∙ ap (λ (m : ℕ). replicate m 0) height)) (IsCodeword-zeros n r)
 IsCodeword-values (suc width) n r x block height wide columns =
     subst (IsCodeword n r) (sym (values-split width x block wide))
-    (IsCodeword-sum_of n r (scaled (power x width) (column block 0)) (values x (tails block))
-    (IsCodeword-scaled n r (power x width) (column block 0) (columns 0 (omega arith)))
+    (IsCodeword-sum_of n r (mul_scalar (power x width) (column block 0)) (values x (tails block))
+    (IsCodeword-mul_scalar n r (power x width) (column block 0) (columns 0 (omega arith)))
     (IsCodeword-values width n r x (tails block) (length-map block (λ (row : List ℕ). drop 1 row) ∙ height) (IsWide-tails width block wide)
     (λ j below. subst (IsCodeword n r) (sym (column-tails block j)) (columns (suc j) (omega arith)))))
 

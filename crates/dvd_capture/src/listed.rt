@@ -110,8 +110,8 @@ fn fetch_runs<S: Source>(src: &mut S, marks: &mut Marks) -> Result<(), FetchAnsw
     }
     let mut fields = Fields::new();
     let mut taken = Taken { runs: 0, end: 0 };
-    // Each turn reads a byte at least, so the loop ends. A run has four bytes and is taken once these are whole, so all
-    // are at the end.
+    // Each iteration reads a byte at least, so the loop ends. A run has four bytes and is taken once these are whole,
+    // so all are at the end.
     while fields.len() < 4 * number {
         read_fields(src, &mut fields, 4 * number)?;
         taken = take_runs(marks, fields.as_slice(), taken)?;

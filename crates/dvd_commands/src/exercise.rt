@@ -217,12 +217,12 @@ pub fn exercise_loop<R: Threads + Sync, K: Sink, G: Gate>(
         workers: &workers,
         settings,
     };
-    follow_trials(&setup, block, piece, work, &mut SliceSource::new(&[]), out)
+    run_trials(&setup, block, piece, work, &mut SliceSource::new(&[]), out)
 }
 
 // Likewise with any source, which stays as it is: the loop asks for one, though these units read nothing. So
 // `run_exercise` can give the run's own, which its clauses are of.
-fn follow_trials<R: Threads + Sync, S: Source, K: Sink, G: Gate>(
+fn run_trials<R: Threads + Sync, S: Source, K: Sink, G: Gate>(
     setup: &Setup<'_, R, G>,
     block: &mut Block,
     piece: &mut Piece,
@@ -255,11 +255,11 @@ fn follow_trials<R: Threads + Sync, S: Source, K: Sink, G: Gate>(
         add: &add,
         read: &read,
     };
-    follow_by(&drawing, block, piece, work, src, out)
+    run_drawing(&drawing, block, piece, work, src, out)
 }
 
 // Likewise by these closures. A function of its own, since a closure's type has no name where it is made.
-fn follow_by<'a, 'r, A: Fn(&mut Block), F, S: Source, K: Sink>(
+fn run_drawing<'a, 'r, A: Fn(&mut Block), F, S: Source, K: Sink>(
     drawing: &Drawing<'r, A, F>,
     block: &'a mut Block,
     piece: &'a mut Piece,
@@ -320,7 +320,7 @@ pub(crate) fn run_exercise<R: Threads + Sync, S: Source, K: Sink, G: Gate>(
         workers,
         settings: start.settings,
     };
-    Ok(follow_trials(&setup, &mut block, &mut piece, &mut work, src, out))
+    Ok(run_trials(&setup, &mut block, &mut piece, &mut work, src, out))
 }
 
 // The smallest disk with so many blocks, each at an address of its own. The zeros are the sectors of a second layer,

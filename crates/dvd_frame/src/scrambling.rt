@@ -230,7 +230,7 @@ fn set_first_keys(preset: u16, keys: &mut [u8; 2048])
     let mut next = next_word(&mut stream);
     for place in 0..32 {
         put(keys, 8 * place, &word.to_be_bytes());
-        (word, next) = (next, word_behind(word, next));
+        (word, next) = (next, word_after(word, next));
     }
 }
 
@@ -248,7 +248,7 @@ fn next_word(stream: &mut Keystream) -> u64
 
 // The eight bytes after these two words, `word` and the `next` one: each is the sum of those fifteen and eleven places
 // before it, by the sequence at m = 8. In the sixteen bytes of both words these begin at byte 1 and at byte 5.
-fn word_behind(word: u64, next: u64) -> u64
+fn word_after(word: u64, next: u64) -> u64
     ensures { (preset k : ℕ) → to_be_bytes w64 word ≡ keys_from preset k 8 → to_be_bytes w64 next ≡ keys_from preset (k + 8) 8
         → to_be_bytes w64 result ≡ keys_from preset (k + 16) 8 }
 {

@@ -15,4 +15,4 @@ pub mod Mastered
 pub mod SavedFrames
 pub mod SavedLaws
 pub mod HeldAnswers
-pub mod LanesInTurns
+pub mod AlternatingLanes

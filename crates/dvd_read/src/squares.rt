@@ -52,7 +52,7 @@ fn load_square(answers: &[AnswerRow], top: usize, at: usize) -> [u8x16; 16]
     ensures lanes { EachIndex result (λ k. length (line result k) ≡ 16) }
     ensures transposed { (k n : ℕ) → k < 16 → n < 16 → place result k n ≡ place (answer_bytes answers.now) (top + n) (at + k) }
 {
-    turn(&load_rows(answers, top, at))
+    transpose_square(&load_rows(answers, top, at))
 }
 
 // Writes sixteen bytes of a column. Also ensures its length, which the type of the array has and a slice wouldn't.
@@ -116,7 +116,7 @@ fn load(row: &[u8], at: usize) -> u8x16
 // Transposes a square. Number of vector and number of lane are four bits each, and a step rotates these eight bits by
 // one. After four steps the two numbers have changed places.
 #[inline(always)]
-fn turn(square: &[u8x16; 16]) -> [u8x16; 16]
+fn transpose_square(square: &[u8x16; 16]) -> [u8x16; 16]
     requires { EachIndex square.now (λ k. length (line square.now k) ≡ 16) }
     ensures lanes { EachIndex result (λ k. length (line result k) ≡ 16) }
     ensures transposed { IsTransposed square.now result }

@@ -1,4 +1,4 @@
--- What each turn of a loop shows that fills a list in order.
+-- What each iteration of a loop shows that fills a list in order.
 use Rattle.std.proofs.Common.{ℕ, ◌+◌, ◌<◌, List, length, get_or, set, ⊎_elim, subst, sym, arith}
 use Rattle.std.proofs.lemmas.List.{get_or-set_other, get_or-set_same}
 use Rattle.std.proofs.lemmas.Bool.{cases_eq}

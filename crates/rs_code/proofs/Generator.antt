@@ -9,9 +9,9 @@ use Rattle.coding.specs.Words.{value}
 use Rattle.gf_field.proofs.FieldLaws.{plus-self, product-zero, zero-product, one-product, power-suc, power-byte}
 use Rattle.rs_code.specs.Polynomials.{HasRoots}
 use Rattle.rs_code.specs.declared.division.TheConstants.{PI_GENERATOR, PO_GENERATOR}
-use Rattle.rs_code.specs.Inner.Polynomials.{sum_of, scaled, times_root}
+use Rattle.rs_code.specs.Inner.Polynomials.{sum_of, mul_scalar, times_root}
 use Rattle.rs_code.proofs.Ring.{ring}
-use Rattle.rs_code.proofs.Values.{value-cons, value-push, value-sum_of, value-scaled, length-sum_of, length-scaled, get_or-sum_of, get_or-scaled}
+use Rattle.rs_code.proofs.Values.{value-cons, value-push, value-sum_of, value-mul_scalar, length-sum_of, length-mul_scalar, get_or-sum_of, get_or-mul_scalar}
 
 -- the leading 1 counts as the power of x by the degree
 pub value-led : (generator : List ℕ) (x : ℕ) → value (1 ∷ generator) x ≡ plus (power x (length generator)) (value generator x)
@@ -19,14 +19,14 @@ value-led generator x =
     value-cons 1 generator x ∙ rw (one-product (power x (length generator)) (power-byte x (length generator)))
 
 -- a polynomial times x and its multiple with the leading 1 have the same length
-longer : (generator : List ℕ) (root : ℕ) → length (generator ++ 0 ∷ []) ≡ length (scaled root (1 ∷ generator))
-longer generator root = omega (arith, length-append generator (0 ∷ []), length-scaled root (1 ∷ generator))
+longer : (generator : List ℕ) (root : ℕ) → length (generator ++ 0 ∷ []) ≡ length (mul_scalar root (1 ∷ generator))
+longer generator root = omega (arith, length-append generator (0 ∷ []), length-mul_scalar root (1 ∷ generator))
 
 -- one factor more is one coefficient more
 pub length-times_root : (generator : List ℕ) (root : ℕ) → length (times_root generator root) ≡ suc (length generator)
 unfolding times_root
 length-times_root generator root =
-    length-sum_of (generator ++ 0 ∷ []) (scaled root (1 ∷ generator)) (longer generator root)
+    length-sum_of (generator ++ 0 ∷ []) (mul_scalar root (1 ∷ generator)) (longer generator root)
     ∙ (let e : length (generator ++ 0 ∷ []) ≡ suc (length generator) = omega (arith, length-append generator (0 ∷ [])) in e)
 
 -- the value with one factor more, multiplied out
@@ -40,8 +40,8 @@ value-times_root generator root x =
     let up : power x (length (times_root generator root)) ≡ product (power x (length generator)) x =
     ap (power x) (length-times_root generator root) ∙ power-suc x (length generator) in
     let rest : value (times_root generator root) x ≡ plus (plus (product (value generator x) x) 0) (product root (plus (power x (length generator)) (value generator x))) =
-    value-sum_of (generator ++ 0 ∷ []) (scaled root (1 ∷ generator)) x (longer generator root)
-    ∙ rw (value-push generator 0 x (omega arith), value-scaled root (1 ∷ generator) x, value-led generator x) in
+    value-sum_of (generator ++ 0 ∷ []) (mul_scalar root (1 ∷ generator)) x (longer generator root)
+    ∙ rw (value-push generator 0 x (omega arith), value-mul_scalar root (1 ∷ generator) x, value-led generator x) in
     value-led (times_root generator root) x
     ∙ rw (up, rest, value-led generator x) (multiplied x root (power x (length generator)) (value generator x))
 
@@ -80,11 +80,11 @@ HasRoots-generator_of (suc r) = HasRoots-next r (generator_of r) (HasRoots-gener
 
 -- the generators at hand are those of the codes of an ECC block
 PI-same : generator_of 10 ≡ PI_GENERATOR
-unfolding generator_of times_root sum_of scaled product partial_product shifted power shift
+unfolding generator_of times_root sum_of mul_scalar product partial_product shifted power shift
 PI-same = refl
 
 PO-same : generator_of 16 ≡ PO_GENERATOR
-unfolding generator_of times_root sum_of scaled product partial_product shifted power shift
+unfolding generator_of times_root sum_of mul_scalar product partial_product shifted power shift
 PO-same = refl
 
 pub PI-generator : HasRoots 10 PI_GENERATOR
@@ -109,14 +109,14 @@ pub times_root-from_places : (generator padded after : List ℕ) (root : ℕ)
 unfolding times_root
 times_root-from_places generator padded after root is long places =
     let size : length padded ≡ length (generator ++ 0 ∷ []) = ap length is in
-    let multiplied = sum_of (generator ++ 0 ∷ []) (scaled root (1 ∷ generator)) in
-    let longer_too : length multiplied ≡ length (generator ++ 0 ∷ []) = length-sum_of (generator ++ 0 ∷ []) (scaled root (1 ∷ generator)) (longer generator root) in
+    let multiplied = sum_of (generator ++ 0 ∷ []) (mul_scalar root (1 ∷ generator)) in
+    let longer_too : length multiplied ≡ length (generator ++ 0 ∷ []) = length-sum_of (generator ++ 0 ∷ []) (mul_scalar root (1 ∷ generator)) (longer generator root) in
     same_number_lists after multiplied (omega arith)
     (λ k below.
     let led : get_or (1 ∷ padded) k 0 ≡ get_or (1 ∷ generator) k 0 = ap (λ xs. get_or (1 ∷ xs) k 0) is ∙ get_or-padded (1 ∷ generator) k in
     places k (omega arith)
     ∙ rw (led, is)
-    (sym (get_or-sum_of (generator ++ 0 ∷ []) (scaled root (1 ∷ generator)) k (longer generator root) ∙ ap (plus (get_or (generator ++ 0 ∷ []) k 0)) (get_or-scaled root (1 ∷ generator) k))))
+    (sym (get_or-sum_of (generator ++ 0 ∷ []) (mul_scalar root (1 ∷ generator)) k (longer generator root) ∙ ap (plus (get_or (generator ++ 0 ∷ []) k 0)) (get_or-mul_scalar root (1 ∷ generator) k))))
 
 -- one root more, as a loop over a list that a 0 was pushed to has it
 pub HasRoots-more : (r root : ℕ) (generator after : List ℕ) → root ≡ power alpha r → after ≡ times_root generator root → HasRoots r generator → HasRoots (r + 1) after

@@ -6,14 +6,14 @@ use Rattle.std.proofs.lemmas.Bool.{and_parts, ltb-true}
 use Rattle.std.proofs.lemmas.List.{get_or-map}
 use Rattle.std.proofs.lemmas.List.FromFn.{get_or-map-range_with_len}
 use Rattle.coding.specs.Field.{product, partial_product, shifted, shift, power}
-use Rattle.rs_code.specs.Inner.Polynomials.{sum_of, scaled, times_root}
+use Rattle.rs_code.specs.Inner.Polynomials.{sum_of, mul_scalar, times_root}
 use Rattle.rs_code.specs.Inner.Registers.{register_bytes, HasMultiples, AreLater, AreTables, after_byte}
 use Rattle.rs_code.specs.declared.tables.TheConstants.{PI_TABLES, PO_TABLES}
 use Rattle.rs_code.proofs.Generator.{generator_of}
 
 -- the sixteen bytes of a factor's entry: the generator times the factor, and zeros after it
 multiple_at : List ℕ → ℕ → List ℕ
-multiple_at generator factor = scaled factor generator ++ replicate (16 - length (scaled factor generator)) 0
+multiple_at generator factor = mul_scalar factor generator ++ replicate (16 - length (mul_scalar factor generator)) 0
 
 -- a table with these bytes, entry by entry, has the generator's multiples
 by_rows : (generator table : List ℕ) → length table ≡ 256 → map (register_bytes 16) table ≡ map (multiple_at generator) (range_with_len 0 256) → HasMultiples generator table 256
@@ -62,12 +62,12 @@ tables_of r generator tables are = record {
 
 -- those of the inner parity
 pub PI-tables : AreTables (generator_of 10) PI_TABLES
-unfolding generator_of times_root sum_of scaled power product partial_product shifted shift multiple_at register_bytes after_byte table_at
+unfolding generator_of times_root sum_of mul_scalar power product partial_product shifted shift multiple_at register_bytes after_byte table_at
 PI-tables = tables_of 10 (0xD8 ∷ 0xC2 ∷ 0x9F ∷ 0x6F ∷ 0xC7 ∷ 0x5E ∷ 0x5F ∷ 0x71 ∷ 0x9D ∷ 0xC1 ∷ []) PI_TABLES
     (record { multiplied = refl; rows = refl; words = refl; size0 = refl; size1 = refl; size2 = refl; one = refl; two = refl; three = refl })
 
 -- those of the outer parity
 pub PO-tables : AreTables (generator_of 16) PO_TABLES
-unfolding generator_of times_root sum_of scaled power product partial_product shifted shift multiple_at register_bytes after_byte table_at
+unfolding generator_of times_root sum_of mul_scalar power product partial_product shifted shift multiple_at register_bytes after_byte table_at
 PO-tables = tables_of 16 (0x3B ∷ 0x0D ∷ 0x68 ∷ 0xBD ∷ 0x44 ∷ 0xD1 ∷ 0x1E ∷ 0x08 ∷ 0xA3 ∷ 0x41 ∷ 0x29 ∷ 0xE5 ∷ 0x62 ∷ 0x32 ∷ 0x24 ∷ 0x3B ∷ []) PO_TABLES
     (record { multiplied = refl; rows = refl; words = refl; size0 = refl; size1 = refl; size2 = refl; one = refl; two = refl; three = refl })

@@ -7,10 +7,10 @@ use Rattle.std.proofs.lemmas.Nat.{xor_shr, xor_mod, xor_lt, xor_block, shr_below
 use Rattle.std.proofs.lemmas.List.{append_cancel_left, take_at, length-replicate, replicate_more, replicate-append-replicate}
 use Rattle.coding.specs.Field.{plus}
 use Rattle.gf_field.proofs.FieldLaws.{plus-byte, plus-product, plus-pairs, plus-zero, plus-self}
-use Rattle.rs_code.specs.Inner.Polynomials.{sum_of, scaled, IsRemainder}
+use Rattle.rs_code.specs.Inner.Polynomials.{sum_of, mul_scalar, IsRemainder}
 use Rattle.rs_code.specs.Inner.Registers.{register_bytes, Holds, HasMultiples, after_byte}
 use Rattle.rs_code.proofs.Ring.{ring}
-use Rattle.rs_code.proofs.Values.{length-sum_of, length-scaled}
+use Rattle.rs_code.proofs.Values.{length-sum_of, length-mul_scalar}
 use Rattle.rs_code.proofs.Remainders.{next_register, IsRemainder-start, IsRemainder-next}
 
 -- ---- bytes of a number
@@ -85,10 +85,10 @@ register_bytes-rest (suc k) n =
 -- ---- sums and multiples
 
 -- a multiple by a sum is the sum of the multiples
-pub scaled-plus : (a b : ℕ) (word : List ℕ) → scaled (plus a b) word ≡ sum_of (scaled a word) (scaled b word)
-unfolding scaled sum_of
-scaled-plus a b [] = refl
-scaled-plus a b (byte ∷ word) = rw (plus-product a b byte, scaled-plus a b word) refl
+pub mul_scalar-plus : (a b : ℕ) (word : List ℕ) → mul_scalar (plus a b) word ≡ sum_of (mul_scalar a word) (mul_scalar b word)
+unfolding mul_scalar sum_of
+mul_scalar-plus a b [] = refl
+mul_scalar-plus a b (byte ∷ word) = rw (plus-product a b byte, mul_scalar-plus a b word) refl
 
 -- a sum of zeros is zeros
 sum_of-zeros_both : (n : ℕ) → sum_of (replicate n 0) (replicate n 0) ≡ replicate n 0
@@ -156,12 +156,12 @@ Holds-next : (generator : List ℕ) (n byte entry first : ℕ) (rest : List ℕ)
     → n < 2 ^ 128
     → length (first ∷ rest) ≡ length generator
     → Holds n (first ∷ rest)
-    → Holds entry (scaled (plus first byte) generator)
+    → Holds entry (mul_scalar (plus first byte) generator)
     → Holds (plus (n * 256 % 2 ^ 128) entry) (next_register generator (first ∷ rest) byte)
 unfolding next_register
 Holds-next generator n byte entry first rest is_word long holds in_entry =
-    let same : length (rest ++ 0 ∷ []) ≡ length (scaled (plus first byte) generator) = length-append rest (0 ∷ []) ∙ omega (arith, length-scaled (plus first byte) generator) in
-    Holds-plus (n * 256 % 2 ^ 128) entry (rest ++ 0 ∷ []) (scaled (plus first byte) generator) same (Holds-left n first rest is_word holds) in_entry
+    let same : length (rest ++ 0 ∷ []) ≡ length (mul_scalar (plus first byte) generator) = length-append rest (0 ∷ []) ∙ omega (arith, length-mul_scalar (plus first byte) generator) in
+    Holds-plus (n * 256 % 2 ^ 128) entry (rest ++ 0 ∷ []) (mul_scalar (plus first byte) generator) same (Holds-left n first rest is_word holds) in_entry
 
 -- ---- the remainder in the register
 
@@ -245,9 +245,9 @@ entry-plus : (generator table : List ℕ) (a b : ℕ)
     → HasMultiples generator table 256
     → get_or table (plus a b) 0 ≡ plus (get_or table a 0) (get_or table b 0)
 entry-plus generator table a b byte_a byte_b words has =
-    let in_sum : Holds (get_or table (plus a b) 0) (sum_of (scaled a generator) (scaled b generator)) = rw (scaled-plus a b generator) at (has (plus a b) (plus-byte a b byte_a byte_b)) in
-    let same : length (scaled a generator) ≡ length (scaled b generator) = length-scaled a generator ∙ sym (length-scaled b generator) in
-    let by_parts = Holds-plus (get_or table a 0) (get_or table b 0) (scaled a generator) (scaled b generator) same (has a byte_a) (has b byte_b) in
+    let in_sum : Holds (get_or table (plus a b) 0) (sum_of (mul_scalar a generator) (mul_scalar b generator)) = rw (mul_scalar-plus a b generator) at (has (plus a b) (plus-byte a b byte_a byte_b)) in
+    let same : length (mul_scalar a generator) ≡ length (mul_scalar b generator) = length-mul_scalar a generator ∙ sym (length-mul_scalar b generator) in
+    let by_parts = Holds-plus (get_or table a 0) (get_or table b 0) (mul_scalar a generator) (mul_scalar b generator) same (has a byte_a) (has b byte_b) in
     register_bytes-same 16 (get_or table (plus a b) 0) (plus (get_or table a 0) (get_or table b 0)) (words (plus a b)) (xor_lt 128 (get_or table a 0) (get_or table b 0) (words a) (words b)) (in_sum ∙ sym by_parts)
 
 -- a shift of a sum is the sum of the shifts

@@ -6,22 +6,22 @@ use Rattle.std.proofs.lemmas.List.Elements.{All-head, All-tail, All-replicate, A
 use Rattle.coding.specs.Field.{plus, product, power}
 use Rattle.coding.specs.Words.{IsByte, value}
 use Rattle.gf_field.proofs.FieldLaws.{plus-zero_same, product-byte, zero-product, power-suc}
-use Rattle.rs_code.specs.Inner.Polynomials.{sum_of, scaled, IsRemainder}
+use Rattle.rs_code.specs.Inner.Polynomials.{sum_of, mul_scalar, IsRemainder}
 use Rattle.rs_code.proofs.Ring.{ring}
-use Rattle.rs_code.proofs.Values.{value-cons, value-append, value-push, value-sum_of, value-scaled, value-zeros, length-sum_of, length-scaled, get_or-sum_of, get_or-scaled}
+use Rattle.rs_code.proofs.Values.{value-cons, value-append, value-push, value-sum_of, value-mul_scalar, value-zeros, length-sum_of, length-mul_scalar, get_or-sum_of, get_or-mul_scalar}
 use Rattle.rs_code.proofs.Generator.{value-led, get_or-padded}
 use Rattle.rs_code.proofs.Distance.{All-sum_of}
 
 -- a multiple is made of bytes
-pub All-scaled : (factor : ℕ) (word : List ℕ) → All IsByte (scaled factor word)
-unfolding scaled
-All-scaled factor [] = All-nil IsByte
-All-scaled factor (byte ∷ word) = All-cons IsByte (product factor byte) (scaled factor word) (product-byte factor byte) (All-scaled factor word)
+pub All-mul_scalar : (factor : ℕ) (word : List ℕ) → All IsByte (mul_scalar factor word)
+unfolding mul_scalar
+All-mul_scalar factor [] = All-nil IsByte
+All-mul_scalar factor (byte ∷ word) = All-cons IsByte (product factor byte) (mul_scalar factor word) (product-byte factor byte) (All-mul_scalar factor word)
 
 -- the register after one byte
 unfoldable pub next_register : List ℕ → List ℕ → ℕ → List ℕ
 next_register generator [] byte = []
-next_register generator (first ∷ rest) byte = sum_of (rest ++ 0 ∷ []) (scaled (plus first byte) generator)
+next_register generator (first ∷ rest) byte = sum_of (rest ++ 0 ∷ []) (mul_scalar (plus first byte) generator)
 
 -- before anything is read the remainder is zeros
 pub IsRemainder-start : (generator : List ℕ) → IsRemainder generator [] (replicate (length generator) 0)
@@ -44,24 +44,24 @@ pub IsRemainder-next : (generator read : List ℕ) (first : ℕ) (rest : List �
 unfolding next_register
 IsRemainder-next generator read first rest byte is_byte before =
     let long : length (first ∷ rest) ≡ length generator = before.size in
-    let same : length (rest ++ 0 ∷ []) ≡ length (scaled (plus first byte) generator) =
-    omega (arith, length-append rest (0 ∷ []), length-scaled (plus first byte) generator) in
-    let size : length (sum_of (rest ++ 0 ∷ []) (scaled (plus first byte) generator)) ≡ length generator =
-    length-sum_of (rest ++ 0 ∷ []) (scaled (plus first byte) generator) same ∙ omega (arith, length-append rest (0 ∷ [])) in
+    let same : length (rest ++ 0 ∷ []) ≡ length (mul_scalar (plus first byte) generator) =
+    omega (arith, length-append rest (0 ∷ []), length-mul_scalar (plus first byte) generator) in
+    let size : length (sum_of (rest ++ 0 ∷ []) (mul_scalar (plus first byte) generator)) ≡ length generator =
+    length-sum_of (rest ++ 0 ∷ []) (mul_scalar (plus first byte) generator) same ∙ omega (arith, length-append rest (0 ∷ [])) in
     record {
       size = size;
-      bytes = All-sum_of (rest ++ 0 ∷ []) (scaled (plus first byte) generator)
+      bytes = All-sum_of (rest ++ 0 ∷ []) (mul_scalar (plus first byte) generator)
           (All-append IsByte rest (0 ∷ []) (All-tail IsByte first rest before.bytes) (All-cons IsByte 0 [] (omega arith) (All-nil IsByte)))
-          (All-scaled (plus first byte) generator);
+          (All-mul_scalar (plus first byte) generator);
       vanishes = λ x root.
           let up : power x (length generator) ≡ product (power x (length rest)) x = ap (power x) (sym long) ∙ power-suc x (length rest) in
           let as_led : power x (length generator) ≡ value generator x = plus-zero_same _ _ (sym (value-led generator x) ∙ root) in
           let was : plus (product (value read x) (product (power x (length rest)) x)) (plus (product first (power x (length rest))) (value rest x)) ≡ 0 =
           sym (value-append read (first ∷ rest) x ∙ rw (value-cons first rest x, long, up)) ∙ before.vanishes x root in
-          let now : value (sum_of (rest ++ 0 ∷ []) (scaled (plus first byte) generator)) x ≡ plus (plus (product (value rest x) x) 0) (product (plus first byte) (product (power x (length rest)) x)) =
-          value-sum_of (rest ++ 0 ∷ []) (scaled (plus first byte) generator) x same
-          ∙ rw (value-push rest 0 x (omega arith), value-scaled (plus first byte) generator x, ← as_led, up) in
-          value-append (read ++ byte ∷ []) (sum_of (rest ++ 0 ∷ []) (scaled (plus first byte) generator)) x
+          let now : value (sum_of (rest ++ 0 ∷ []) (mul_scalar (plus first byte) generator)) x ≡ plus (plus (product (value rest x) x) 0) (product (plus first byte) (product (power x (length rest)) x)) =
+          value-sum_of (rest ++ 0 ∷ []) (mul_scalar (plus first byte) generator) x same
+          ∙ rw (value-push rest 0 x (omega arith), value-mul_scalar (plus first byte) generator x, ← as_led, up) in
+          value-append (read ++ byte ∷ []) (sum_of (rest ++ 0 ∷ []) (mul_scalar (plus first byte) generator)) x
           ∙ rw (value-push read byte x is_byte, size, up, now)
           (turned (value read x) byte first (value rest x) (power x (length rest)) x ∙ ap (λ v. product v x) was ∙ zero-product x);
     }
@@ -79,15 +79,15 @@ unfolding next_register
 IsRemainder-from_places generator read [] after byte is_byte some long places before = absurd (omega arith)
 IsRemainder-from_places generator read (first ∷ rest) after byte is_byte some long places before =
     let size : length (first ∷ rest) ≡ length generator = before.size in
-    let same : length (rest ++ 0 ∷ []) ≡ length (scaled (plus first byte) generator) =
-    omega (arith, length-append rest (0 ∷ []), length-scaled (plus first byte) generator) in
-    let next = sum_of (rest ++ 0 ∷ []) (scaled (plus first byte) generator) in
-    let next_size : length next ≡ length (rest ++ 0 ∷ []) = length-sum_of (rest ++ 0 ∷ []) (scaled (plus first byte) generator) same in
+    let same : length (rest ++ 0 ∷ []) ≡ length (mul_scalar (plus first byte) generator) =
+    omega (arith, length-append rest (0 ∷ []), length-mul_scalar (plus first byte) generator) in
+    let next = sum_of (rest ++ 0 ∷ []) (mul_scalar (plus first byte) generator) in
+    let next_size : length next ≡ length (rest ++ 0 ∷ []) = length-sum_of (rest ++ 0 ∷ []) (mul_scalar (plus first byte) generator) same in
     let is : after ≡ next = same_number_lists after next (omega (arith, length-append rest (0 ∷ [])))
     (λ k below.
     let padded : get_or (rest ++ 0 ∷ []) k 0 ≡ get_or (first ∷ rest) (k + 1) 0 = get_or-padded rest k ∙ rw add-one refl in
     places k (omega arith)
-    ∙ sym (get_or-sum_of (rest ++ 0 ∷ []) (scaled (plus first byte) generator) k same ∙ rw (padded, get_or-scaled (plus first byte) generator k))) in
+    ∙ sym (get_or-sum_of (rest ++ 0 ∷ []) (mul_scalar (plus first byte) generator) k same ∙ rw (padded, get_or-mul_scalar (plus first byte) generator k))) in
     subst (λ xs. IsRemainder generator (read ++ byte ∷ []) xs) (sym is) (IsRemainder-next generator read first rest byte is_byte before)
 
 -- the register after one more byte, where the generator has a degree

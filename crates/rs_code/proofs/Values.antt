@@ -4,7 +4,7 @@ use Rattle.std.proofs.lemmas.List.{length-map, take_more}
 use Rattle.coding.specs.Field.{plus, product, power}
 use Rattle.coding.specs.Words.{value}
 use Rattle.gf_field.proofs.FieldLaws.{plus-byte, product-byte, power-zero, power-suc, power-add, product-assoc, product-comm, product-one, zero-product, product-zero, zero-plus, plus-zero}
-use Rattle.rs_code.specs.Inner.Polynomials.{sum_of, scaled}
+use Rattle.rs_code.specs.Inner.Polynomials.{sum_of, mul_scalar}
 use Rattle.rs_code.proofs.Ring.{ring}
 
 -- the value of the empty word is 0
@@ -69,30 +69,30 @@ value-sum_of (c ∷ a) (d ∷ b) x same =
     simp (value-cons, as_long, as_long_too, value-sum_of a b x rest, ring)
 
 -- a multiple of a word is as long as the word
-pub length-scaled : (factor : ℕ) (word : List ℕ) → length (scaled factor word) ≡ length word
-unfolding scaled
-length-scaled factor word = length-map word (product factor)
+pub length-mul_scalar : (factor : ℕ) (word : List ℕ) → length (mul_scalar factor word) ≡ length word
+unfolding mul_scalar
+length-mul_scalar factor word = length-map word (product factor)
 
 -- a multiple begins with the multiple of the first byte
-pub scaled-cons : (factor byte : ℕ) (word : List ℕ) → scaled factor (byte ∷ word) ≡ product factor byte ∷ scaled factor word
-unfolding scaled
-scaled-cons factor byte word = refl
+pub mul_scalar-cons : (factor byte : ℕ) (word : List ℕ) → mul_scalar factor (byte ∷ word) ≡ product factor byte ∷ mul_scalar factor word
+unfolding mul_scalar
+mul_scalar-cons factor byte word = refl
 
 -- each byte of a multiple is the factor times the word's byte
-pub get_or-scaled : (factor : ℕ) (word : List ℕ) (k : ℕ) → get_or (scaled factor word) k 0 ≡ product factor (get_or word k 0)
-unfolding scaled
-get_or-scaled factor [] k = sym (product-zero factor)
-get_or-scaled factor (byte ∷ word) zero = refl
-get_or-scaled factor (byte ∷ word) (suc k) = get_or-scaled factor word k
+pub get_or-mul_scalar : (factor : ℕ) (word : List ℕ) (k : ℕ) → get_or (mul_scalar factor word) k 0 ≡ product factor (get_or word k 0)
+unfolding mul_scalar
+get_or-mul_scalar factor [] k = sym (product-zero factor)
+get_or-mul_scalar factor (byte ∷ word) zero = refl
+get_or-mul_scalar factor (byte ∷ word) (suc k) = get_or-mul_scalar factor word k
 
 -- the value of a multiple is the factor times the word's value
-pub value-scaled : (factor : ℕ) (word : List ℕ) (x : ℕ) → value (scaled factor word) x ≡ product factor (value word x)
-unfolding scaled
-value-scaled factor [] x = simp (value-nil, product-zero)
-value-scaled factor (byte ∷ word) x =
-    let as_long : power x (length (scaled factor word)) ≡ power x (length word) = ap (power x) (length-scaled factor word) in
-    value-cons (product factor byte) (scaled factor word) x
-    ∙ simp (as_long, value-cons, value-scaled factor word x, ring)
+pub value-mul_scalar : (factor : ℕ) (word : List ℕ) (x : ℕ) → value (mul_scalar factor word) x ≡ product factor (value word x)
+unfolding mul_scalar
+value-mul_scalar factor [] x = simp (value-nil, product-zero)
+value-mul_scalar factor (byte ∷ word) x =
+    let as_long : power x (length (mul_scalar factor word)) ≡ power x (length word) = ap (power x) (length-mul_scalar factor word) in
+    value-cons (product factor byte) (mul_scalar factor word) x
+    ∙ simp (as_long, value-cons, value-mul_scalar factor word x, ring)
 
 -- the value of zeros is 0
 pub value-zeros : (n x : ℕ) → value (replicate n 0) x ≡ 0

@@ -3,13 +3,13 @@ use Rattle.std.specs.Prelude.{◌≡◌, [], ◌∷◌, refl}
 use Rattle.coding.specs.Field.{shift, shifted, partial_product, product, power}
 use Rattle.coding.specs.Words.{value}
 use Rattle.coding.specs.Distance.{weight, distance}
-use Rattle.rs_code.specs.Inner.Polynomials.{sum_of, scaled, times_root}
+use Rattle.rs_code.specs.Inner.Polynomials.{sum_of, mul_scalar, times_root}
 use Rattle.rs_code.specs.Inner.PowerSums.{power_sum, points_of}
 use Rattle.rs_code.specs.Syndromes.{syndromes_of}
 
 -- the coefficients of the IED's generator after the leading 01: (x + 01) (x + 02) = x^2 + 03 x + 02
 generator-ied : times_root (times_root [] 0x01) 0x02 ≡ 0x03 ∷ 0x02 ∷ []
-unfolding times_root sum_of scaled product partial_product shifted shift
+unfolding times_root sum_of mul_scalar product partial_product shifted shift
 generator-ied = refl
 
 -- the values of six bytes at 01 and at alpha

@@ -4,12 +4,12 @@ use Rattle.std.proofs.Common.{◌≡◌, ◌≢◌, ℕ, zero, suc, ◌+◌, ◌
 use Rattle.std.proofs.lemmas.Grind.{same_number_lists}
 use Rattle.coding.specs.Field.{plus, product}
 use Rattle.gf_field.proofs.FieldLaws.{one-product, plus-zero, product-comm, product-one, product-zero, zero-product}
-use Rattle.rs_code.specs.Inner.Polynomials.{sum_of, scaled}
-use Rattle.rs_code.proofs.Values.{length-sum_of, length-scaled, get_or-sum_of, get_or-scaled, scaled-cons}
+use Rattle.rs_code.specs.Inner.Polynomials.{sum_of, mul_scalar}
+use Rattle.rs_code.proofs.Values.{length-sum_of, length-mul_scalar, get_or-sum_of, get_or-mul_scalar, mul_scalar-cons}
 use Rattle.rs_lanes.specs.Inner.Lanes.{HasLanes}
 use Rattle.rs_decode.specs.Register.{connection}
-use Rattle.rs_decode.proofs.Connections.{connection-later, connection-longer, connection-scaled, connection-sum_of, connection-total}
-use Rattle.rs_decode.proofs.Registers.{FailsAt, IsShortestTo, FailsAt-start, FailsAt-times_x, IsShortestTo-start, Leaves, Leaves-longer, Leaves-mended, Leaves-stays, zeros-start}
+use Rattle.rs_decode.proofs.Connections.{connection-later, connection-longer, connection-mul_scalar, connection-sum_of, connection-total}
+use Rattle.rs_decode.proofs.Registers.{FailsAt, IsShortestTo, FailsAt-start, FailsAt-times_x, IsShortestTo-start, Leaves, Leaves-longer, Leaves-corrected, Leaves-stays, zeros-start}
 use Rattle.rs_decode.proofs.Totals.{total-first}
 
 -- the connection of the first tap alone, where all others are 0
@@ -82,49 +82,49 @@ HasConnections-moved n taps moved seq lanes few first others are k below =
     (λ i within. let next : 1 + i ≡ i + 1 = omega arith in ap (λ j. get_or moved j 0) next ∙ others i (omega arith)))
 
 -- a multiple of another register's taps is added to its connections too
-pub HasConnections-mended : (n factor : ℕ) (taps others seq lanes other_lanes sums : List ℕ) → length seq ≤ 32 → length taps ≡ length others
+pub HasConnections-corrected : (n factor : ℕ) (taps others seq lanes other_lanes sums : List ℕ) → length seq ≤ 32 → length taps ≡ length others
     → HasConnections n taps seq lanes → HasConnections n others seq other_lanes
-    → HasLanes sums (λ k. plus (get_or lanes k 0) (product (get_or other_lanes k 0) factor)) → HasConnections n (sum_of taps (scaled factor others)) seq sums
-HasConnections-mended n factor taps others seq lanes other_lanes sums few same are others_are is k below =
+    → HasLanes sums (λ k. plus (get_or lanes k 0) (product (get_or other_lanes k 0) factor)) → HasConnections n (sum_of taps (mul_scalar factor others)) seq sums
+HasConnections-corrected n factor taps others seq lanes other_lanes sums few same are others_are is k below =
     let m = n + k in
     is.each k (omega arith)
     ∙ rw (are k below, others_are k below, product-comm (connection m others seq m) factor) refl
-    ∙ sym (connection-sum_of m taps (scaled factor others) seq m (same ∙ sym (length-scaled factor others))
-    ∙ ap (plus (connection m taps seq m)) (connection-scaled m factor others seq m))
+    ∙ sym (connection-sum_of m taps (mul_scalar factor others) seq m (same ∙ sym (length-mul_scalar factor others))
+    ∙ ap (plus (connection m taps seq m)) (connection-mul_scalar m factor others seq m))
 
 -- each tap with the multiple of another's, the first of both included
-tap-mended : (factor : ℕ) (taps others sums : List ℕ) → HasLanes sums (λ k. plus (get_or taps k 0) (product (get_or others k 0) factor)) → (k : ℕ) → k < 33
+tap-corrected : (factor : ℕ) (taps others sums : List ℕ) → HasLanes sums (λ k. plus (get_or taps k 0) (product (get_or others k 0) factor)) → (k : ℕ) → k < 33
     → get_or (1 ∷ sums) k 0 ≡ plus (get_or (1 ∷ taps) k 0) (product factor (get_or (0 ∷ others) k 0))
-tap-mended factor taps others sums is zero below = sym (ap (plus 1) (product-zero factor) ∙ plus-zero 1)
-tap-mended factor taps others sums is (suc k) below = is.each k (omega arith) ∙ ap (plus (get_or taps k 0)) (product-comm (get_or others k 0) factor)
+tap-corrected factor taps others sums is zero below = sym (ap (plus 1) (product-zero factor) ∙ plus-zero 1)
+tap-corrected factor taps others sums is (suc k) below = is.each k (omega arith) ∙ ap (plus (get_or taps k 0)) (product-comm (get_or others k 0) factor)
 
 -- all taps with the multiple of another's
 pub taps_mended : (factor : ℕ) (taps others sums : List ℕ) → length taps ≡ 32 → length others ≡ 32
-    → HasLanes sums (λ k. plus (get_or taps k 0) (product (get_or others k 0) factor)) → 1 ∷ sums ≡ sum_of (1 ∷ taps) (scaled factor (0 ∷ others))
+    → HasLanes sums (λ k. plus (get_or taps k 0) (product (get_or others k 0) factor)) → 1 ∷ sums ≡ sum_of (1 ∷ taps) (mul_scalar factor (0 ∷ others))
 taps_mended factor taps others sums size others_size is =
-    let all = scaled factor (0 ∷ others) in
-    let all_size : length all ≡ 33 = length-scaled factor (0 ∷ others) ∙ ap suc others_size in
+    let all = mul_scalar factor (0 ∷ others) in
+    let all_size : length all ≡ 33 = length-mul_scalar factor (0 ∷ others) ∙ ap suc others_size in
     let same : length (1 ∷ taps) ≡ length all = ap suc size ∙ sym all_size in
     same_number_lists (1 ∷ sums) (sum_of (1 ∷ taps) all) (ap suc is.size ∙ sym (length-sum_of (1 ∷ taps) all same ∙ ap suc size))
     (λ k inside.
-    tap-mended factor taps others sums is k (omega (arith, is.size))
-    ∙ sym (get_or-sum_of (1 ∷ taps) all k same ∙ ap (plus (get_or (1 ∷ taps) k 0)) (get_or-scaled factor (0 ∷ others) k)))
+    tap-corrected factor taps others sums is k (omega (arith, is.size))
+    ∙ sym (get_or-sum_of (1 ∷ taps) all k same ∙ ap (plus (get_or (1 ∷ taps) k 0)) (get_or-mul_scalar factor (0 ∷ others) k)))
 
 -- a multiple's connections are the multiples
-pub HasConnections-scaled : (n factor : ℕ) (taps seq lanes multiples : List ℕ) → length seq ≤ 32 → HasConnections n taps seq lanes
-    → HasLanes multiples (λ k. product (get_or lanes k 0) factor) → HasConnections n (scaled factor taps) seq multiples
-HasConnections-scaled n factor taps seq lanes multiples few are is k below =
+pub HasConnections-mul_scalar : (n factor : ℕ) (taps seq lanes multiples : List ℕ) → length seq ≤ 32 → HasConnections n taps seq lanes
+    → HasLanes multiples (λ k. product (get_or lanes k 0) factor) → HasConnections n (mul_scalar factor taps) seq multiples
+HasConnections-mul_scalar n factor taps seq lanes multiples few are is k below =
     is.each k (omega arith) ∙ ap (λ x. product x factor) (are k below) ∙ product-comm (connection (n + k) taps seq (n + k)) factor
-    ∙ sym (connection-scaled (n + k) factor taps seq (n + k))
+    ∙ sym (connection-mul_scalar (n + k) factor taps seq (n + k))
 
 -- the taps of a multiple, the first of which was 1
 pub taps_scaled : (factor : ℕ) (taps multiples : List ℕ) → factor < 256 → length taps ≡ 32 → HasLanes multiples (λ k. product (get_or taps k 0) factor)
-    → factor ∷ multiples ≡ scaled factor (1 ∷ taps)
+    → factor ∷ multiples ≡ mul_scalar factor (1 ∷ taps)
 taps_scaled factor taps multiples byte size is =
-    let rest : multiples ≡ scaled factor taps =
-    same_number_lists multiples (scaled factor taps) (is.size ∙ sym (length-scaled factor taps ∙ size))
-    (λ k inside. is.each k (omega (arith, is.size)) ∙ product-comm (get_or taps k 0) factor ∙ sym (get_or-scaled factor taps k)) in
-    rw (scaled-cons factor 1 taps, product-one factor byte, rest) refl
+    let rest : multiples ≡ mul_scalar factor taps =
+    same_number_lists multiples (mul_scalar factor taps) (is.size ∙ sym (length-mul_scalar factor taps ∙ size))
+    (λ k inside. is.each k (omega (arith, is.size)) ∙ product-comm (get_or taps k 0) factor ∙ sym (get_or-mul_scalar factor taps k)) in
+    rw (mul_scalar-cons factor 1 taps, product-one factor byte, rest) refl
 
 -- with a byte in front each number is one place later
 pub get_or-after : (first : ℕ) (lanes : List ℕ) (k : ℕ) → get_or (first ∷ lanes) (k + 1) 0 ≡ get_or lanes k 0
@@ -193,21 +193,21 @@ module _ (n len : ℕ) (taps earlier seq connections others : List ℕ) (few : l
       (sums_are : HasLanes sums (λ k. plus (get_or taps k 0) (product (get_or earlier k 0) found)))
       (sum_connections_are : HasLanes sum_connections (λ k. plus (get_or connections k 0) (product (get_or others k 0) found))) where
     -- the taps with the multiple
-    taps_are : sum_of (1 ∷ taps) (scaled found (0 ∷ earlier)) ≡ 1 ∷ sums
+    taps_are : sum_of (1 ∷ taps) (mul_scalar found (0 ∷ earlier)) ≡ 1 ∷ sums
     taps_are = sym (taps_mended found taps earlier sums (omega (arith, at.shortest.size)) (omega (arith, at.fails.size)) sums_are)
 
     -- and their connections
     are_mended : HasConnections n (1 ∷ sums) seq sum_connections
     are_mended =
         subst (λ all. HasConnections n all seq sum_connections) taps_are
-        (HasConnections-mended n found (1 ∷ taps) (0 ∷ earlier) seq connections others sum_connections few (at.shortest.size ∙ sym at.fails.size)
+        (HasConnections-corrected n found (1 ∷ taps) (0 ∷ earlier) seq connections others sum_connections few (at.shortest.size ∙ sym at.fails.size)
         at.connections_are at.others_are sum_connections_are)
 
     -- it is corrected, and stays as long
-    pub IsLeft-mended : n < 2 * len → IsLeft n len 0 sums earlier seq sum_connections others
-    IsLeft-mended long = record {
+    pub IsLeft-corrected : n < 2 * len → IsLeft n len 0 sums earlier seq sum_connections others
+    IsLeft-corrected long = record {
       leaves = subst (λ all. Leaves n len all (0 ∷ earlier) seq) taps_are
-          (Leaves-mended n len (1 ∷ taps) (0 ∷ earlier) seq at.shortest at.fails found refl (is_found ∙ found_is) nonzero long);
+          (Leaves-corrected n len (1 ∷ taps) (0 ∷ earlier) seq at.shortest at.fails found refl (is_found ∙ found_is) nonzero long);
       connections_are = are_mended;
       others_are = at.others_are;
     }
@@ -217,12 +217,12 @@ module _ (n len : ℕ) (taps earlier seq connections others : List ℕ) (few : l
         → HasLanes multiples (λ k. product (get_or taps k 0) factor) → HasLanes multiple_connections (λ k. product (get_or connections k 0) factor) → 2 * len ≤ n
         → IsLeft n (n + 1 - len) factor sums multiples seq sum_connections multiple_connections
     IsLeft-longer factor multiples multiple_connections inverse byte multiples_are multiple_connections_are short =
-        let all_are : scaled factor (1 ∷ taps) ≡ factor ∷ multiples = sym (taps_scaled factor taps multiples byte (omega (arith, at.shortest.size)) multiples_are) in
+        let all_are : mul_scalar factor (1 ∷ taps) ≡ factor ∷ multiples = sym (taps_scaled factor taps multiples byte (omega (arith, at.shortest.size)) multiples_are) in
         record {
           leaves = subst (λ all. Leaves n (n + 1 - len) all (factor ∷ multiples) seq) taps_are
-              (subst (λ all. Leaves n (n + 1 - len) (sum_of (1 ∷ taps) (scaled found (0 ∷ earlier))) all seq) all_are
+              (subst (λ all. Leaves n (n + 1 - len) (sum_of (1 ∷ taps) (mul_scalar found (0 ∷ earlier))) all seq) all_are
               (Leaves-longer n len (1 ∷ taps) (0 ∷ earlier) seq at.shortest at.fails found refl (is_found ∙ found_is) nonzero factor inverse short));
           connections_are = are_mended;
           others_are = subst (λ all. HasConnections n all seq multiple_connections) all_are
-              (HasConnections-scaled n factor (1 ∷ taps) seq connections multiple_connections few at.connections_are multiple_connections_are);
+              (HasConnections-mul_scalar n factor (1 ∷ taps) seq connections multiple_connections few at.connections_are multiple_connections_are);
         }

@@ -2,8 +2,8 @@
 use Rattle.std.proofs.Common.{◌≡◌, ℕ, ◌+◌, ◌-◌, ◌<◌, ◌≤◌, List, length, get_or, refl, sym, ap, ◌∙◌, arith}
 use Rattle.coding.specs.Field.{plus, product}
 use Rattle.gf_field.proofs.FieldLaws.{one-product, product-assoc, product-byte, product-comm, product-zero, zero-product, plus-product}
-use Rattle.rs_code.specs.Inner.Polynomials.{sum_of, scaled}
-use Rattle.rs_code.proofs.Values.{get_or-sum_of, get_or-scaled}
+use Rattle.rs_code.specs.Inner.Polynomials.{sum_of, mul_scalar}
+use Rattle.rs_code.proofs.Values.{get_or-sum_of, get_or-mul_scalar}
 use Rattle.rs_decode.specs.Register.{total, connection}
 use Rattle.rs_decode.proofs.Totals.{total-exchange, total-first, total-byte, total-later, total-longer, total-plus, total-product, total-same, total-zeros}
 
@@ -64,14 +64,14 @@ connection-sum_of len taps others seq n same =
     ∙ total-plus (len + 1) f g
 
 -- and of a multiple
-pub connection-scaled : (len factor : ℕ) (taps seq : List ℕ) (n : ℕ)
-    → connection len (scaled factor taps) seq n ≡ product factor (connection len taps seq n)
+pub connection-mul_scalar : (len factor : ℕ) (taps seq : List ℕ) (n : ℕ)
+    → connection len (mul_scalar factor taps) seq n ≡ product factor (connection len taps seq n)
 unfolding connection
-connection-scaled len factor taps seq n =
+connection-mul_scalar len factor taps seq n =
     let s : ℕ → ℕ = λ i. get_or seq (n - i) 0 in
     let f : ℕ → ℕ = λ i. product (get_or taps i 0) (s i) in
-    total-same (len + 1) (λ i. product (get_or (scaled factor taps) i 0) (s i)) (λ i. product factor (f i))
-    (λ i below. ap (λ x. product x (s i)) (get_or-scaled factor taps i) ∙ product-assoc factor (get_or taps i 0) (s i))
+    total-same (len + 1) (λ i. product (get_or (mul_scalar factor taps) i 0) (s i)) (λ i. product factor (f i))
+    (λ i below. ap (λ x. product x (s i)) (get_or-mul_scalar factor taps i) ∙ product-assoc factor (get_or taps i 0) (s i))
     ∙ total-product (len + 1) factor f
 
 -- a factor of a product to the front

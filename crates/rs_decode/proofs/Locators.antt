@@ -6,12 +6,12 @@ use Rattle.coding.specs.Field.{plus, product}
 use Rattle.coding.specs.Words.{IsByte, value}
 use Rattle.gf_field.proofs.FieldLaws.{plus-self, plus-zero, power-zero, product-one, product-zero, zero-product}
 use Rattle.coding.specs.Distance.{weight}
-use Rattle.rs_code.specs.Inner.Polynomials.{scaled, times_root}
+use Rattle.rs_code.specs.Inner.Polynomials.{mul_scalar, times_root}
 use Rattle.rs_code.specs.Inner.PowerSums.{power_sum}
 use Rattle.rs_code.proofs.Distance.{All-sum_of}
 use Rattle.rs_code.proofs.Generator.{length-times_root, value-times_root}
 use Rattle.rs_code.proofs.PowerSums.{weight-zero, weight-nonzero}
-use Rattle.rs_code.proofs.Remainders.{All-scaled}
+use Rattle.rs_code.proofs.Remainders.{All-mul_scalar}
 use Rattle.rs_code.proofs.Values.{value-nil, value-cons}
 use Rattle.rs_decode.specs.Inner.Locator.{at_points, distances}
 use Rattle.rs_decode.specs.Register.{Generates, IsLeast}
@@ -35,8 +35,8 @@ length-product_of (a ∷ points) = length-times_root (product_of points) a ∙ a
 All-times_root : (generator : List ℕ) (root : ℕ) → All IsByte generator → All IsByte (times_root generator root)
 unfolding times_root
 All-times_root generator root all =
-    All-sum_of (generator ++ 0 ∷ []) (scaled root (1 ∷ generator))
-    (All-append IsByte generator (0 ∷ []) all (All-cons IsByte 0 [] (omega arith) (All-nil IsByte))) (All-scaled root (1 ∷ generator))
+    All-sum_of (generator ++ 0 ∷ []) (mul_scalar root (1 ∷ generator))
+    (All-append IsByte generator (0 ∷ []) all (All-cons IsByte 0 [] (omega arith) (All-nil IsByte))) (All-mul_scalar root (1 ∷ generator))
 
 -- the coefficients of the product are bytes
 All-product_of : (points : List ℕ) → All IsByte (product_of points)

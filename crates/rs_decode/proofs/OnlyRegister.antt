@@ -8,13 +8,13 @@ use Rattle.std.proofs.lemmas.List.Elements.{All-get_or}
 use Rattle.coding.specs.Field.{plus, product}
 use Rattle.coding.specs.Words.{IsByte}
 use Rattle.gf_field.proofs.FieldLaws.{has_inverse, plus-self, plus-zero, plus-zero_same, product-comm, product-zero}
-use Rattle.rs_code.specs.Inner.Polynomials.{sum_of, scaled}
+use Rattle.rs_code.specs.Inner.Polynomials.{sum_of, mul_scalar}
 use Rattle.rs_code.proofs.Distance.{All-sum_of}
-use Rattle.rs_code.proofs.Remainders.{All-scaled}
-use Rattle.rs_code.proofs.Values.{length-sum_of, length-scaled, get_or-sum_of, get_or-scaled}
+use Rattle.rs_code.proofs.Remainders.{All-mul_scalar}
+use Rattle.rs_code.proofs.Values.{length-sum_of, length-mul_scalar, get_or-sum_of, get_or-mul_scalar}
 use Rattle.rs_decode.specs.Laws.{ShortestRegisterIsOnlyOne}
 use Rattle.rs_decode.specs.Register.{Generates, IsLeast, connection}
-use Rattle.rs_decode.proofs.Connections.{Makes, connection-later, connection-sum_of, connection-scaled, connections-agree}
+use Rattle.rs_decode.proofs.Connections.{Makes, connection-later, connection-sum_of, connection-mul_scalar, connections-agree}
 
 -- the difference's connections are 0
 difference-makes : (len : ℕ) (a b seq : List ℕ) → Generates len a seq → Generates len b seq → Makes len (sum_of a b) seq (length seq)
@@ -25,17 +25,17 @@ difference-makes len a b seq gen_a gen_b k reached below =
 -- that since a register makes it with which it is short enough.
 rest-makes : (len first factor : ℕ) (difference taps seq : List ℕ) → first ≤ len → 2 * len ≤ length seq → Generates len taps seq
     → Makes len difference seq (length seq) → ((i : ℕ) → i < first → get_or difference i 0 ≡ 0) → (n : ℕ) → n ≤ length seq
-    → Makes (len - first) (scaled factor (drop first difference)) seq n
+    → Makes (len - first) (mul_scalar factor (drop first difference)) seq n
 rest-makes len first factor difference taps seq within short generates makes zeros zero inside k reached below = absurd (omega arith)
 rest-makes len first factor difference taps seq within short generates makes zeros (suc n) inside k reached below =
-    let rest = scaled factor (drop first difference) in
+    let rest = mul_scalar factor (drop first difference) in
     elim (cases_lt k n) [
       | inl earlier ↦ rest-makes len first factor difference taps seq within short generates makes zeros n (omega arith) k reached earlier
       | inr last ↦
           elim (cases_lt (first + k) (length seq)) [
             | inl early ↦
                 let whole : first + (len - first) ≡ len = omega arith in
-                connection-scaled (len - first) factor (drop first difference) seq k
+                connection-mul_scalar (len - first) factor (drop first difference) seq k
                 ∙ ap (product factor) (sym (connection-later (len - first) first difference (drop first difference) seq k zeros (λ i below. sym (get_or-drop first difference i 0)))
                 ∙ ap (λ l. connection l difference seq (first + k)) whole ∙ makes (first + k) (omega arith) early)
                 ∙ product-zero factor
@@ -59,13 +59,13 @@ next-zero len first a b seq within short least gen_a gen_b zeros =
       | inl is_zero ↦ is_zero
       | inr nonzero ↦
           let inverse = has_inverse (get_or difference first 0) byte nonzero in
-          let rest = scaled inverse.0 (drop first difference) in
+          let rest = mul_scalar inverse.0 (drop first difference) in
           let generates : Generates (len - first) rest seq = record {
             within = omega (arith, gen_a.within);
-            size = length-scaled inverse.0 (drop first difference) ∙ length-drop first difference ∙ omega (arith, length-sum_of a b same, gen_a.size);
-            bytes = All-scaled inverse.0 (drop first difference);
+            size = length-mul_scalar inverse.0 (drop first difference) ∙ length-drop first difference ∙ omega (arith, length-sum_of a b same, gen_a.size);
+            bytes = All-mul_scalar inverse.0 (drop first difference);
             first =
-                get_or-scaled inverse.0 (drop first difference) 0
+                get_or-mul_scalar inverse.0 (drop first difference) 0
                 ∙ ap (product inverse.0) (get_or-drop first difference 0 0 ∙ ap (λ i. get_or difference i 0) (omega arith))
                 ∙ product-comm inverse.0 (get_or difference first 0) ∙ inverse.2;
             vanishes =

@@ -8,13 +8,13 @@ use Rattle.std.proofs.lemmas.List.Elements.{All-cons, All-replicate, All-take}
 use Rattle.coding.specs.Field.{plus, product}
 use Rattle.coding.specs.Words.{IsByte}
 use Rattle.gf_field.proofs.FieldLaws.{plus-self, plus-zero, product-comm, product-one, product-zero}
-use Rattle.rs_code.specs.Inner.Polynomials.{sum_of, scaled}
+use Rattle.rs_code.specs.Inner.Polynomials.{sum_of, mul_scalar}
 use Rattle.rs_code.proofs.Distance.{All-sum_of}
-use Rattle.rs_code.proofs.Remainders.{All-scaled}
-use Rattle.rs_code.proofs.Values.{length-sum_of, length-scaled, get_or-sum_of, get_or-scaled}
+use Rattle.rs_code.proofs.Remainders.{All-mul_scalar}
+use Rattle.rs_code.proofs.Values.{length-sum_of, length-mul_scalar, get_or-sum_of, get_or-mul_scalar}
 use Rattle.rs_lanes.proofs.ParityLemmas.{get_or-zeros}
 use Rattle.rs_decode.specs.Register.{Generates, IsLeast, connection}
-use Rattle.rs_decode.proofs.Connections.{Makes, connection-byte, connection-same, connection-longer, connection-later, connection-sum_of, connection-scaled, connections-agree}
+use Rattle.rs_decode.proofs.Connections.{Makes, connection-byte, connection-same, connection-longer, connection-later, connection-sum_of, connection-mul_scalar, connections-agree}
 
 -- after the first tap at the start there are zeros
 pub zeros-start : (c : ℕ) → 0 < c → get_or {A = ℕ} (1 ∷ replicate 32 0) c 0 ≡ 0
@@ -99,28 +99,28 @@ longer n len other taps others seq is fails within first makes =
 
 -- A register that fails at n, with the right multiple of one that fails there too. The new length is the larger of
 -- both, which no register can fall short of.
-pub IsShortestTo-mended : (n len reach longest found failure factor : ℕ) (taps earlier seq : List ℕ) → IsShortestTo n len taps seq
+pub IsShortestTo-corrected : (n len reach longest found failure factor : ℕ) (taps earlier seq : List ℕ) → IsShortestTo n len taps seq
     → FailsAt n reach failure earlier seq → len + reach ≡ n + 1 → get_or earlier 0 0 ≡ 0 → connection len taps seq n ≡ found → found ≢ 0
     → product factor failure ≡ found → len ≤ longest → reach ≤ longest → ((k : ℕ) → len ≤ k → reach ≤ k → longest ≤ k)
-    → IsShortestTo (n + 1) longest (sum_of taps (scaled factor earlier)) seq
-IsShortestTo-mended n len reach longest found failure factor taps earlier seq is fails lengths starts discrepancy nonzero quotient above_len above_reach least =
-    let same : length taps ≡ length (scaled factor earlier) = is.size ∙ sym (length-scaled factor earlier ∙ fails.size) in
-    let tap : (c : ℕ) → get_or (sum_of taps (scaled factor earlier)) c 0 ≡ plus (get_or taps c 0) (product factor (get_or earlier c 0)) = λ c.
-    get_or-sum_of taps (scaled factor earlier) c same ∙ ap (plus (get_or taps c 0)) (get_or-scaled factor earlier c) in
-    let parts : (k : ℕ) → connection longest (sum_of taps (scaled factor earlier)) seq k ≡ plus (connection len taps seq k) (product factor (connection reach earlier seq k)) = λ k.
-    connection-sum_of longest taps (scaled factor earlier) seq k same
-    ∙ ap (plus (connection longest taps seq k)) (connection-scaled longest factor earlier seq k)
+    → IsShortestTo (n + 1) longest (sum_of taps (mul_scalar factor earlier)) seq
+IsShortestTo-corrected n len reach longest found failure factor taps earlier seq is fails lengths starts discrepancy nonzero quotient above_len above_reach least =
+    let same : length taps ≡ length (mul_scalar factor earlier) = is.size ∙ sym (length-mul_scalar factor earlier ∙ fails.size) in
+    let tap : (c : ℕ) → get_or (sum_of taps (mul_scalar factor earlier)) c 0 ≡ plus (get_or taps c 0) (product factor (get_or earlier c 0)) = λ c.
+    get_or-sum_of taps (mul_scalar factor earlier) c same ∙ ap (plus (get_or taps c 0)) (get_or-mul_scalar factor earlier c) in
+    let parts : (k : ℕ) → connection longest (sum_of taps (mul_scalar factor earlier)) seq k ≡ plus (connection len taps seq k) (product factor (connection reach earlier seq k)) = λ k.
+    connection-sum_of longest taps (mul_scalar factor earlier) seq k same
+    ∙ ap (plus (connection longest taps seq k)) (connection-mul_scalar longest factor earlier seq k)
     ∙ ap (λ x. plus x (product factor (connection longest earlier seq k))) (connection-longer len longest taps seq k above_len is.higher)
     ∙ ap (λ x. plus (connection len taps seq k) (product factor x)) (connection-longer reach longest earlier seq k above_reach fails.higher) in
     let zeros : (a b : ℕ) → a ≡ 0 → b ≡ 0 → plus a (product factor b) ≡ 0 = λ a b a_zero b_zero. rw (a_zero, b_zero, product-zero factor) (plus-zero 0) in
     record {
-      size = length-sum_of taps (scaled factor earlier) same ∙ is.size;
-      bytes = All-sum_of taps (scaled factor earlier) is.bytes (All-scaled factor earlier);
+      size = length-sum_of taps (mul_scalar factor earlier) same ∙ is.size;
+      bytes = All-sum_of taps (mul_scalar factor earlier) is.bytes (All-mul_scalar factor earlier);
       within = least (n + 1) (omega (arith, is.within)) (omega arith);
       first = tap 0 ∙ rw (is.first, starts, product-zero factor) (plus-zero 1);
       higher = λ c above. tap c ∙ zeros (get_or taps c 0) (get_or earlier c 0) (is.higher c (omega arith)) (fails.higher c (omega arith));
       makes = λ k reached below.
-          below_more (λ j. longest ≤ j → connection longest (sum_of taps (scaled factor earlier)) seq j ≡ 0) n
+          below_more (λ j. longest ≤ j → connection longest (sum_of taps (mul_scalar factor earlier)) seq j ≡ 0) n
           (λ j before above. parts j ∙ zeros (connection len taps seq j) (connection reach earlier seq j) (is.makes j (omega arith) before) (fails.makes j (omega arith) before))
           (λ above. parts n ∙ rw (discrepancy, fails.here (omega arith), quotient) (plus-self found))
           k below reached;
@@ -140,13 +140,13 @@ FailsAt-at_hand n len found taps seq is discrepancy = record {
 }
 
 -- a multiple fails by the multiple
-pub FailsAt-scaled : (n len failure factor : ℕ) (taps seq : List ℕ) → FailsAt n len failure taps seq
-    → FailsAt n len (product factor failure) (scaled factor taps) seq
-FailsAt-scaled n len failure factor taps seq is = record {
-  size = length-scaled factor taps ∙ is.size;
-  higher = λ c above. get_or-scaled factor taps c ∙ ap (product factor) (is.higher c above) ∙ product-zero factor;
-  makes = λ k reached below. connection-scaled len factor taps seq k ∙ ap (product factor) (is.makes k reached below) ∙ product-zero factor;
-  here = λ reached. connection-scaled len factor taps seq n ∙ ap (product factor) (is.here reached);
+pub FailsAt-mul_scalar : (n len failure factor : ℕ) (taps seq : List ℕ) → FailsAt n len failure taps seq
+    → FailsAt n len (product factor failure) (mul_scalar factor taps) seq
+FailsAt-mul_scalar n len failure factor taps seq is = record {
+  size = length-mul_scalar factor taps ∙ is.size;
+  higher = λ c above. get_or-mul_scalar factor taps c ∙ ap (product factor) (is.higher c above) ∙ product-zero factor;
+  makes = λ k reached below. connection-mul_scalar len factor taps seq k ∙ ap (product factor) (is.makes k reached below) ∙ product-zero factor;
+  here = λ reached. connection-mul_scalar len factor taps seq n ∙ ap (product factor) (is.here reached);
 }
 
 -- with each tap moved up, it fails one place later
@@ -188,23 +188,23 @@ module _ (n len : ℕ) (taps earlier seq : List ℕ) (is : IsShortestTo n len ta
     by_itself = product-one found (subst (λ x. x < 256) (sym discrepancy) (connection-byte len taps seq n))
 
     -- it is corrected, and stays as long
-    pub Leaves-mended : n < 2 * len → Leaves n len (sum_of taps (scaled found earlier)) earlier seq
-    Leaves-mended long = (
-      IsShortestTo-mended n len (n + 1 - len) len found 1 found taps earlier seq is fails (omega (arith, is.within)) starts
+    pub Leaves-corrected : n < 2 * len → Leaves n len (sum_of taps (mul_scalar found earlier)) earlier seq
+    Leaves-corrected long = (
+      IsShortestTo-corrected n len (n + 1 - len) len found 1 found taps earlier seq is fails (omega (arith, is.within)) starts
           (sym discrepancy) nonzero by_itself (omega arith) (omega arith) (λ k above_len above_reach. above_len),
       fails,
     )
 
     -- it is corrected, and gets longer; as it was, a multiple of it is the earlier one from now on
     pub Leaves-longer : (factor : ℕ) → product found factor ≡ 1 → 2 * len ≤ n
-        → Leaves n (n + 1 - len) (sum_of taps (scaled found earlier)) (scaled factor taps) seq
+        → Leaves n (n + 1 - len) (sum_of taps (mul_scalar found earlier)) (mul_scalar factor taps) seq
     Leaves-longer factor inverse short =
         let back : len ≡ n + 1 - (n + 1 - len) = omega (arith, is.within) in (
-          IsShortestTo-mended n len (n + 1 - len) (n + 1 - len) found 1 found taps earlier seq is fails (omega (arith, is.within)) starts
+          IsShortestTo-corrected n len (n + 1 - len) (n + 1 - len) found 1 found taps earlier seq is fails (omega (arith, is.within)) starts
               (sym discrepancy) nonzero by_itself (omega arith) (omega arith) (λ k above_len above_reach. above_reach),
-          subst (λ reach. FailsAt n reach 1 (scaled factor taps) seq) back
-              (subst (λ by. FailsAt n len by (scaled factor taps) seq) (product-comm factor found ∙ inverse)
-              (FailsAt-scaled n len found factor taps seq (FailsAt-at_hand n len found taps seq is (sym discrepancy)))),
+          subst (λ reach. FailsAt n reach 1 (mul_scalar factor taps) seq) back
+              (subst (λ by. FailsAt n len by (mul_scalar factor taps) seq) (product-comm factor found ∙ inverse)
+              (FailsAt-mul_scalar n len found factor taps seq (FailsAt-at_hand n len found taps seq is (sym discrepancy)))),
         )
 
 -- at the list's end, the taps without the zeros after them generate it

@@ -16,7 +16,7 @@ use crate::forney::{derivative, times_distance};
 use crate::syndromes::first_lanes;
 use arrayvec::ArrayVec;
 use gf_field::inv;
-use rs_lanes::scaled;
+use rs_lanes::mul_scalar;
 use std::simd::prelude::*;
 
 /// The inverse of the matrix whose row k has the k-th powers of at most sixteen points: its row i, times power sums, is
@@ -138,7 +138,7 @@ fn combined(columns: &[[u8; 16]; 16], sums: &[u8]) -> u8x16
 {
     let mut bytes = u8x16::splat(0);
     for k in 0..sums.len() {
-        bytes = bytes ^ scaled(u8x16::from_array(columns[k]), sums[k]);
+        bytes = bytes ^ mul_scalar(u8x16::from_array(columns[k]), sums[k]);
     }
     bytes
 }

@@ -63,13 +63,13 @@ pub fn shortest(seq: &[u8]) -> Register
         if found != 0 {
             // A copy, since it may become the earlier one.
             let before = register;
-            register = mended(register, earlier, found);
+            register = corrected(register, earlier, found);
             // No register that generates the number here is shorter than `place + 1 - len`. Where that is longer than
             // `len`, it is the new length; else the old length is enough.
             if 2 * len <= place {
                 len = place + 1 - len;
                 first = inv(found);
-                earlier = scaled(before, first);
+                earlier = mul_scalar(before, first);
             }
         }
         register.connections = moved_down(register.connections);
@@ -84,7 +84,7 @@ pub fn shortest(seq: &[u8]) -> Register
 
 // A register with a multiple of another added, in taps and connections alike: a connection is linear in the taps.
 #[inline(always)]
-fn mended(register: Candidate, other: Candidate, factor: u8) -> Candidate
+fn corrected(register: Candidate, other: Candidate, factor: u8) -> Candidate
     ensures taps { HasLanes result.taps (λ k. plus (slice_index register.taps k) (product (slice_index other.taps k) factor)) }
     ensures connections { HasLanes result.connections
         (λ k. plus (slice_index register.connections k) (product (slice_index other.connections k) factor)) }
@@ -97,7 +97,7 @@ fn mended(register: Candidate, other: Candidate, factor: u8) -> Candidate
 
 // A multiple of a register but for its first tap, which the caller has.
 #[inline(always)]
-fn scaled(register: Candidate, factor: u8) -> Candidate
+fn mul_scalar(register: Candidate, factor: u8) -> Candidate
     ensures taps { HasLanes result.taps (λ k. product (slice_index register.taps k) factor) }
     ensures connections { HasLanes result.connections (λ k. product (slice_index register.connections k) factor) }
 {

@@ -8,7 +8,7 @@ ghost use Rattle.rs_decode.specs.Inner.Locator.{at_points, distances};
 ghost use Rattle.rs_decode.specs.Inner.Sums.{AreSums};
 
 use crate::combining::as_prefix;
-use rs_lanes::scaled;
+use rs_lanes::mul_scalar;
 use std::simd::prelude::*;
 
 /// Takes points out of power sums, of which the first lanes then have as many less. What the lanes after these have
@@ -41,5 +41,5 @@ fn without(sums: u8x16, point: u8) -> u8x16
         u8x16::splat(0),
         [1, 2, 3, 4, 5, 6, 7, 8, 9, 10, 11, 12, 13, 14, 15, 16],
     );
-    next ^ scaled(sums, point)
+    next ^ mul_scalar(sums, point)
 }

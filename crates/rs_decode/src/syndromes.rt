@@ -11,7 +11,7 @@ ghost use Rattle.rs_lanes.specs.Inner.Lanes.{HoldsLanes};
 use arrayvec::ArrayVec;
 use gf_field::log;
 use rs_code::Code;
-use rs_lanes::{powers, scaled};
+use rs_lanes::{mul_scalar, powers};
 use std::simd::prelude::*;
 
 /// The values of `word` at alpha^0 to alpha^(R-1), in this order. `R` is a constant of the type, so the choice between
@@ -65,7 +65,7 @@ pub fn power_sums(points: &[u8], bytes: &[u8]) -> u8x16
 {
     let mut sums = u8x16::splat(0);
     for i in (0..points.len()).rev() {
-        sums = sums ^ scaled(powers(log(points[i]) as usize), bytes[i]);
+        sums = sums ^ mul_scalar(powers(log(points[i]) as usize), bytes[i]);
     }
     sums
 }
@@ -79,7 +79,7 @@ fn values(word: &[u8]) -> u8x16
 {
     let mut sums = u8x16::splat(0);
     for place in (0..word.len()).rev() {
-        sums = sums ^ scaled(powers(word.len() - 1 - place), word[place]);
+        sums = sums ^ mul_scalar(powers(word.len() - 1 - place), word[place]);
     }
     sums
 }

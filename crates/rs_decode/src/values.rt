@@ -7,7 +7,7 @@ ghost use Rattle.coding.specs.Words.{value};
 
 use crate::combining::add_lanes;
 use gf_field::alpha_pow;
-use rs_lanes::{powers, scaled};
+use rs_lanes::{mul_scalar, powers};
 
 /// The polynomial's values at alpha^0, alpha^1, .. : byte `k` is that at alpha^k, for each `k` below `count`. Values
 /// are found in whole groups of sixteen, so the list has room for sixteen groups, and those from `count` on aren't
@@ -35,10 +35,10 @@ fn add_term(values: &mut [u8], groups: usize, coefficient: u8, exponent: usize)
     ensures added { (k : ℕ) → k < 16 * groups
         → slice_index values.new k ≡ plus (slice_index values.old k) (product coefficient (power alpha (exponent * k))) }
 {
-    let mut term = scaled(powers(exponent), coefficient);
+    let mut term = mul_scalar(powers(exponent), coefficient);
     let step = alpha_pow(16 * exponent as u32);
     for group in 0..groups {
         add_lanes(values, 16 * group, term);
-        term = scaled(term, step);
+        term = mul_scalar(term, step);
     }
 }

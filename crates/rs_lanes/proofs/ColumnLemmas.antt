@@ -32,9 +32,9 @@ group_more P at before more j below =
     ]
 
 -- lane n of vectors by places is the row whose places they have
-pub transposed_row : (turned : List (List ℕ)) (n : ℕ) (row : List ℕ) → length turned ≡ 182 → length row ≡ 182
-    → ((k : ℕ) → k < 182 → place turned k n ≡ get_or row k 0)
-    → column turned n ≡ row
-transposed_row turned n row many size same =
-    same_number_lists (column turned n) row (length-column turned n ∙ many ∙ sym size)
-    (λ k below. get_or-column turned n k ∙ same k (omega (arith, length-column turned n)))
+pub transposed_row : (transposed : List (List ℕ)) (n : ℕ) (row : List ℕ) → length transposed ≡ 182 → length row ≡ 182
+    → ((k : ℕ) → k < 182 → place transposed k n ≡ get_or row k 0)
+    → column transposed n ≡ row
+transposed_row transposed n row many size same =
+    same_number_lists (column transposed n) row (length-column transposed n ∙ many ∙ sym size)
+    (λ k below. get_or-column transposed n k ∙ same k (omega (arith, length-column transposed n)))

@@ -6,7 +6,7 @@ use Rattle.coding.specs.Field.{alpha, shift, shifted, partial_product, product, 
 use Rattle.gf_field.specs.declared.powers.TheConstants.{POWERS as powers_of_alpha}
 use Rattle.gf_field.proofs.FieldLaws.{power-alpha-mod}
 use Rattle.gf_field.proofs.Logarithms.{POWERS_at}
-use Rattle.rs_lanes.specs.declared.factors.TheConstants.{LOW_PRODUCTS, HIGH_PRODUCTS, POWERS}
+use Rattle.rs_lanes.specs.declared.gf_tables.TheConstants.{LOW_PRODUCTS, HIGH_PRODUCTS, POWERS}
 use Rattle.rs_lanes.specs.Inner.Tables.{IsTable}
 
 -- the products of a factor with the low nibbles

@@ -1,5 +1,5 @@
--- Words of five bytes at the fifth roots of one: value-five, the roots (roots), and the sums by which `fifths` has the
--- five values (FifthSums, fifth_sums, each_of_five). The five pieces of a third: value-turned of bytes multiplied by
+-- Words of five bytes at the fifth roots of one: value-five, the roots (roots), and the sums by which `at_fifth_roots` has the
+-- five values (FifthSums, fifth_sums, each_of_five). The five pieces of a third: value-rotated of bytes multiplied by
 -- powers first, folded-five, folded-exponent. The exponents below 15: all_exponents.
 use Rattle.std.proofs.Common.{◌≡◌, ℕ, zero, suc, ◌+◌, ◌*◌, ◌/◌, ◌%◌, ◌<◌, List, [], ◌∷◌, length, get_or, refl, sym, ap, subst, ◌∙◌, inl, inr, arith}
 use Rattle.std.proofs.lemmas.Bool.{cases_eq}
@@ -110,14 +110,14 @@ each_of_five P p0 p1 p2 p3 p4 (suc (suc (suc (suc (suc m))))) below = absurd (om
 -- ---- the five pieces of a third
 
 -- a byte multiplied by a power first
-turned-term : (a l x n : ℕ) → product (product a (power l n)) (power x n) ≡ product a (power (product l x) n)
-turned-term a l x n = product-assoc a (power l n) (power x n) ∙ ap (product a) (sym (product-power l x n))
+rotated-term : (a l x n : ℕ) → product (product a (power l n)) (power x n) ≡ product a (power (product l x) n)
+rotated-term a l x n = product-assoc a (power l n) (power x n) ∙ ap (product a) (sym (product-power l x n))
 
 -- bytes multiplied by the powers of a factor have the word's value at the product
-value-turned : (a0 a1 a2 a3 a4 l x : ℕ)
+value-rotated : (a0 a1 a2 a3 a4 l x : ℕ)
     → value (product a4 (power l 4) ∷ product a3 (power l 3) ∷ product a2 (power l 2) ∷ product a1 (power l 1) ∷ product a0 (power l 0) ∷ []) x
     ≡ value (a4 ∷ a3 ∷ a2 ∷ a1 ∷ a0 ∷ []) (product l x)
-value-turned a0 a1 a2 a3 a4 l x = simp (value-cons, turned-term, value-nil)
+value-rotated a0 a1 a2 a3 a4 l x = simp (value-cons, rotated-term, value-nil)
 
 -- Horner's rule on five bytes
 horner-five : (a0 a1 a2 a3 a4 x : ℕ) → a0 < 256 → x < 256
@@ -165,14 +165,14 @@ pub folded-exponent : (i m : ℕ) (word : List ℕ) (q a0 a1 a2 a3 a4 : ℕ) →
     → value (a4 ∷ a3 ∷ a2 ∷ a1 ∷ a0 ∷ []) (power alpha (51 * m)) ≡ get_or (folded 17 (power (power alpha (exponent_at i m)) 17) word 4) q 0
 folded-exponent i m word q a0 a1 a2 a3 a4 long below last is0 is1 is2 is3 is4 =
     let l = power alpha (170 * i) in
-    let turns : (n e : ℕ) → e ≡ 170 * i * n → power alpha e ≡ power l n = λ n e is. ap (power alpha) is ∙ power-mul alpha (170 * i) n in
+    let rotations : (n e : ℕ) → e ≡ 170 * i * n → power alpha e ≡ power l n = λ n e is. ap (power alpha) is ∙ power-mul alpha (170 * i) n in
     rw (
-      is4 ∙ ap (product (get_or word q 0)) (turns 4 _ (omega arith)),
-      is3 ∙ ap (product (get_or word (17 + q) 0)) (turns 3 _ (omega arith)),
-      is2 ∙ ap (product (get_or word (34 + q) 0)) (turns 2 _ (omega arith)),
-      is1 ∙ ap (product (get_or word (51 + q) 0)) (turns 1 _ (omega arith)),
-      is0 ∙ ap (product (get_or word (68 + q) 0)) (turns 0 _ (omega arith)),
-      value-turned _ _ _ _ _ l (power alpha (51 * m)),
+      is4 ∙ ap (product (get_or word q 0)) (rotations 4 _ (omega arith)),
+      is3 ∙ ap (product (get_or word (17 + q) 0)) (rotations 3 _ (omega arith)),
+      is2 ∙ ap (product (get_or word (34 + q) 0)) (rotations 2 _ (omega arith)),
+      is1 ∙ ap (product (get_or word (51 + q) 0)) (rotations 1 _ (omega arith)),
+      is0 ∙ ap (product (get_or word (68 + q) 0)) (rotations 0 _ (omega arith)),
+      value-rotated _ _ _ _ _ l (power alpha (51 * m)),
       power-exponent i m,
     )
     (folded-five (power (power alpha (exponent_at i m)) 17) word q long below (power-byte _ 17) last)

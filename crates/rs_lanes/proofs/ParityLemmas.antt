@@ -13,9 +13,9 @@ use Rattle.std.proofs.lemmas.Simd.{length-replicate, get_or-replicate}
 use Rattle.coding.specs.Field.{alpha, plus, product, power}
 use Rattle.coding.specs.Words.{IsByte, IsEncoded, value}
 use Rattle.gf_field.proofs.FieldLaws.{plus-byte, plus-zero, zero-plus, plus-self, product-byte, product-zero, product-one}
-use Rattle.rs_code.specs.Inner.Polynomials.{sum_of, scaled}
+use Rattle.rs_code.specs.Inner.Polynomials.{sum_of, mul_scalar}
 use Rattle.rs_code.proofs.Codewords.{IsEncoded-from_codeword}
-use Rattle.rs_code.proofs.Values.{value-append, value-sum_of, value-scaled, value-zeros, length-sum_of, get_or-sum_of, length-scaled, get_or-scaled}
+use Rattle.rs_code.proofs.Values.{value-append, value-sum_of, value-mul_scalar, value-zeros, length-sum_of, get_or-sum_of, length-mul_scalar, get_or-mul_scalar}
 use Rattle.coding.specs.Rows.{line, place, column}
 use Rattle.rs_lanes.specs.Inner.Parity.{filled, IsBasis}
 use Rattle.rs_lanes.specs.Inner.Thirds.{after_zeros}
@@ -48,7 +48,7 @@ combined-byte row values (suc k) = plus-byte _ _ (combined-byte row values k) (p
 -- the sum of the first columns of a matrix, each multiplied by its value
 unfoldable word_of : List (List ℕ) → (ℕ → ℕ) → ℕ → List ℕ
 word_of matrix values zero = replicate (length matrix) 0
-word_of matrix values (suc k) = sum_of (word_of matrix values k) (scaled (values k) (column matrix k))
+word_of matrix values (suc k) = sum_of (word_of matrix values k) (mul_scalar (values k) (column matrix k))
 
 -- it is as long as a column
 length-word_of : (matrix : List (List ℕ)) (values : ℕ → ℕ) (n : ℕ) → length (word_of matrix values n) ≡ length matrix
@@ -56,28 +56,28 @@ unfolding word_of
 length-word_of matrix values zero = length-replicate {A = ℕ} (length matrix) 0
 length-word_of matrix values (suc k) =
     let before = length-word_of matrix values k in
-    length-sum_of (word_of matrix values k) (scaled (values k) (column matrix k))
-    (before ∙ sym (length-scaled (values k) (column matrix k) ∙ length-column matrix k)) ∙ before
+    length-sum_of (word_of matrix values k) (mul_scalar (values k) (column matrix k))
+    (before ∙ sym (length-mul_scalar (values k) (column matrix k) ∙ length-column matrix k)) ∙ before
 
 -- as a multiple of a column is
-same_length : (matrix : List (List ℕ)) (values : ℕ → ℕ) (k : ℕ) → length (word_of matrix values k) ≡ length (scaled (values k) (column matrix k))
-same_length matrix values k = length-word_of matrix values k ∙ sym (length-scaled (values k) (column matrix k) ∙ length-column matrix k)
+same_length : (matrix : List (List ℕ)) (values : ℕ → ℕ) (k : ℕ) → length (word_of matrix values k) ≡ length (mul_scalar (values k) (column matrix k))
+same_length matrix values k = length-word_of matrix values k ∙ sym (length-mul_scalar (values k) (column matrix k) ∙ length-column matrix k)
 
 -- its bytes are sums along the rows
 get_or-word_of : (matrix : List (List ℕ)) (values : ℕ → ℕ) (n i : ℕ) → i < length matrix → get_or (word_of matrix values n) i 0 ≡ combined (line matrix i) values n
 unfolding word_of combined
 get_or-word_of matrix values zero i inside = get_or-replicate {A = ℕ} (length matrix) i 0 0 inside
 get_or-word_of matrix values (suc k) i inside =
-    get_or-sum_of (word_of matrix values k) (scaled (values k) (column matrix k)) i (same_length matrix values k)
-    ∙ rw (get_or-word_of matrix values k i inside, get_or-scaled (values k) (column matrix k) i, get_or-column matrix k i) refl
+    get_or-sum_of (word_of matrix values k) (mul_scalar (values k) (column matrix k)) i (same_length matrix values k)
+    ∙ rw (get_or-word_of matrix values k i inside, get_or-mul_scalar (values k) (column matrix k) i, get_or-column matrix k i) refl
 
 -- one column more adds its value's multiple
 value-word_of : (matrix : List (List ℕ)) (values : ℕ → ℕ) (k x : ℕ)
     → value (word_of matrix values (suc k)) x ≡ plus (value (word_of matrix values k) x) (product (values k) (value (column matrix k) x))
 unfolding word_of
 value-word_of matrix values k x =
-    value-sum_of (word_of matrix values k) (scaled (values k) (column matrix k)) x (same_length matrix values k)
-    ∙ ap (plus (value (word_of matrix values k) x)) (value-scaled (values k) (column matrix k) x)
+    value-sum_of (word_of matrix values k) (mul_scalar (values k) (column matrix k)) x (same_length matrix values k)
+    ∙ ap (plus (value (word_of matrix values k) x)) (value-mul_scalar (values k) (column matrix k) x)
 
 -- no columns have the value 0
 value-word_of_none : (matrix : List (List ℕ)) (values : ℕ → ℕ) (x : ℕ) → value (word_of matrix values 0) x ≡ 0

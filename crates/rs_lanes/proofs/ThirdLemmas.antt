@@ -1,6 +1,6 @@
 -- Words cut into pieces of one size that are added up (length-folded, get_or-folded_zero, get_or-folded_suc,
 -- value-folded), zeros before a word (`after_zeros`, zeros_in_front), and the thirds of words in 32 lanes (third-zero,
--- third-one, third-two, each_of_three, turned_once, turned_twice, turned_back; `AreStored` with none_stored, thirds_more,
+-- third-one, third-two, each_of_three, rotated_once, rotated_twice, rotated_back; `AreStored` with none_stored, thirds_more,
 -- thirds_bytes, `thirds_told`).
 use Rattle.std.proofs.Common.{◌≡◌, ℕ, zero, suc, ◌+◌, ◌-◌, ◌*◌, ◌/◌, ◌%◌, ◌<◌, ◌≤◌, List, [], length, get_or, set, take, drop, replicate, All, refl, sym, ap, subst, ◌∙◌, inl, inr, arith, length-append, length-take-le, length-set, get_or-take, get_or-drop, get_or-set_other}
 use Rattle.std.proofs.Math.ListN.{get_or-map}
@@ -14,9 +14,9 @@ use Rattle.std.proofs.lemmas.Simd.{length-chunk, length-replicate, get_or-replic
 use Rattle.coding.specs.Field.{alpha, plus, shift, shifted, partial_product, product, power}
 use Rattle.coding.specs.Words.{IsByte, value}
 use Rattle.gf_field.proofs.FieldLaws.{plus-byte, plus-product, product-plus, product-comm, product-assoc, one-product, product-byte, product-one, power-zero, power-one, power-add, power-mul, power-byte, power-alpha-mod, power-alpha-shifted, zero-product, zero-plus}
-use Rattle.rs_code.specs.Inner.Polynomials.{scaled}
+use Rattle.rs_code.specs.Inner.Polynomials.{mul_scalar}
 use Rattle.rs_code.proofs.Ring.{ring}
-use Rattle.rs_code.proofs.Values.{value-append, value-sum_of, value-scaled, value-zeros, length-sum_of, get_or-sum_of, length-scaled, get_or-scaled, value-more}
+use Rattle.rs_code.proofs.Values.{value-append, value-sum_of, value-mul_scalar, value-zeros, length-sum_of, get_or-sum_of, length-mul_scalar, get_or-mul_scalar, value-more}
 use Rattle.coding.specs.Rows.{line, place}
 use Rattle.rs_lanes.specs.Inner.Lanes.{HasLanes}
 use Rattle.rs_lanes.specs.Inner.Thirds.{after_zeros, folded, third_byte, third_at, third, AreStored, IsThird}
@@ -28,8 +28,8 @@ length-folded size factor word zero fits = length-take-le size word (omega arith
 length-folded size factor word (suc i) fits =
     let more : size * suc i ≡ size * i + size = omega arith in
     let before = length-folded size factor word i (omega arith) in
-    let as_long : length (scaled factor (folded size factor word i)) ≡ size = length-scaled factor (folded size factor word i) ∙ before in
-    length-sum_of (scaled factor (folded size factor word i)) (take size (drop (size * suc i) word)) (as_long ∙ sym (length-chunk (size * suc i) size word fits)) ∙ as_long
+    let as_long : length (mul_scalar factor (folded size factor word i)) ≡ size = length-mul_scalar factor (folded size factor word i) ∙ before in
+    length-sum_of (mul_scalar factor (folded size factor word i)) (take size (drop (size * suc i) word)) (as_long ∙ sym (length-chunk (size * suc i) size word fits)) ∙ as_long
 
 -- a place of the first piece
 pub get_or-folded_zero : (size factor : ℕ) (word : List ℕ) (q : ℕ) → q < size → get_or (folded size factor word 0) q 0 ≡ get_or word q 0
@@ -43,9 +43,9 @@ unfolding folded
 get_or-folded_suc size factor word i q below fits =
     let more : size * suc i ≡ size * i + size = omega arith in
     let before = length-folded size factor word i (omega arith) in
-    let as_long : length (scaled factor (folded size factor word i)) ≡ size = length-scaled factor (folded size factor word i) ∙ before in
-    get_or-sum_of (scaled factor (folded size factor word i)) (take size (drop (size * suc i) word)) q (as_long ∙ sym (length-chunk (size * suc i) size word fits))
-    ∙ rw (get_or-scaled factor (folded size factor word i) q, get_or-take size (drop (size * suc i) word) q 0 below, get_or-drop (size * suc i) word q 0) refl
+    let as_long : length (mul_scalar factor (folded size factor word i)) ≡ size = length-mul_scalar factor (folded size factor word i) ∙ before in
+    get_or-sum_of (mul_scalar factor (folded size factor word i)) (take size (drop (size * suc i) word)) q (as_long ∙ sym (length-chunk (size * suc i) size word fits))
+    ∙ rw (get_or-mul_scalar factor (folded size factor word i) q, get_or-take size (drop (size * suc i) word) q 0 below, get_or-drop (size * suc i) word q 0) refl
 
 -- a place after one step more, as a step of Horner's rule has it
 pub folded_more : (size factor : ℕ) (word : List ℕ) (i q sum next : ℕ) → q < size → size * suc i + size ≤ length word
@@ -66,11 +66,11 @@ value-folded size x word (suc i) fits =
     let more : size * i + size ≡ at = omega arith in
     let before = folded size factor word i in
     let piece = take size (drop at word) in
-    let as_long : length (scaled factor before) ≡ size = length-scaled factor before ∙ length-folded size factor word i (omega arith) in
+    let as_long : length (mul_scalar factor before) ≡ size = length-mul_scalar factor before ∙ length-folded size factor word i (omega arith) in
     let long : length piece ≡ size = length-chunk at size word fits in
     let same : value before x ≡ value (take at word) x = value-folded size x word i (omega arith) ∙ ap (λ n. value (take n word) x) more in
-    value-sum_of (scaled factor before) piece x (as_long ∙ sym long)
-    ∙ ap (λ v. plus v (value piece x)) (value-scaled factor before x ∙ ap (product factor) same ∙ product-comm factor (value (take at word) x)
+    value-sum_of (mul_scalar factor before) piece x (as_long ∙ sym long)
+    ∙ ap (λ v. plus v (value piece x)) (value-mul_scalar factor before x ∙ ap (product factor) same ∙ product-comm factor (value (take at word) x)
     ∙ ap (λ n. product (value (take at word) x) (power x n)) (sym long))
     ∙ sym (value-append (take at word) piece x)
     ∙ ap (λ w. value w x) (sym (take-add at size word))
@@ -192,24 +192,24 @@ each_of_three P p0 p1 p2 (suc zero) below = p1
 each_of_three P p0 p1 p2 (suc (suc zero)) below = p2
 each_of_three P p0 p1 p2 (suc (suc (suc i))) below = absurd (omega arith)
 
--- ---- turns of thirds
+-- ---- rotations of thirds
 
 -- powers of alpha whose exponents add up to a multiple of 255 change nothing together
-pub turned_back : (a e f : ℕ) → a < 256 → (e + f) % 255 ≡ 0 → product (product a (power alpha e)) (power alpha f) ≡ a
-turned_back a e f byte whole =
+pub rotated_back : (a e f : ℕ) → a < 256 → (e + f) % 255 ≡ 0 → product (product a (power alpha e)) (power alpha f) ≡ a
+rotated_back a e f byte whole =
     product-assoc a (power alpha e) (power alpha f)
     ∙ ap (product a) (sym (power-add alpha e f) ∙ sym (power-alpha-mod (e + f)) ∙ ap (power alpha) whole ∙ power-zero alpha)
     ∙ product-one a byte
 
 -- Horner's rule on three bytes, multiplied by a factor whose third power is 1
-horner-turned : (w a b c : ℕ) → product w (product w (product w a)) ≡ a
+horner-rotated : (w a b c : ℕ) → product w (product w (product w a)) ≡ a
     → plus (product w (plus (product w b) c)) a ≡ product (plus (product w (plus (product w a) b)) c) w
-horner-turned w a b c cube =
+horner-rotated w a b c cube =
     ap (plus (product w (plus (product w b) c))) (sym cube) ∙ simp ring
 
--- the three pieces' places in a circle turn a third
-third-turned : (i a b c : ℕ) → a < 256 → third_byte i b c a ≡ product (third_byte i a b c) (power alpha (85 * i))
-third-turned i a b c byte =
+-- the three pieces' places in a circle rotate a third
+third-rotated : (i a b c : ℕ) → a < 256 → third_byte i b c a ≡ product (third_byte i a b c) (power alpha (85 * i))
+third-rotated i a b c byte =
     let w = power alpha (85 * i) in
     let square : product w w ≡ power alpha (85 * i + 85 * i) = sym (power-add alpha (85 * i) (85 * i)) in
     let all : (85 * i + 85 * i + 85 * i) % 255 ≡ 0 = omega arith in
@@ -217,42 +217,42 @@ third-turned i a b c byte =
     ap (product w) (sym (product-assoc w w a) ∙ product-comm (product w w) a)
     ∙ product-comm w (product a (product w w))
     ∙ ap (λ s. product (product a s) w) square
-    ∙ turned_back a (85 * i + 85 * i) (85 * i) byte all in
-    horner-turned w a b c cube
+    ∙ rotated_back a (85 * i + 85 * i) (85 * i) byte all in
+    horner-rotated w a b c cube
 
--- exponents of a turn are the same for turns that are the same by 3
-turns_same : (i turns rest : ℕ) → i < 3 → turns % 3 ≡ rest % 3 → power alpha (85 * (i * turns)) ≡ power alpha (85 * (i * rest))
-turns_same i turns rest below same =
-    let exponents : 85 * (i * turns) % 255 ≡ 85 * (i * rest) % 255 =
-    each_of_three (λ i. 85 * (i * turns) % 255 ≡ 85 * (i * rest) % 255) (omega arith) (omega (arith, same)) (omega (arith, same)) i below in
-    sym (power-alpha-mod (85 * (i * turns))) ∙ ap (power alpha) exponents ∙ power-alpha-mod (85 * (i * rest))
+-- exponents of a rotation are the same for rotations that are the same by 3
+rotations_same : (i rotations rest : ℕ) → i < 3 → rotations % 3 ≡ rest % 3 → power alpha (85 * (i * rotations)) ≡ power alpha (85 * (i * rest))
+rotations_same i rotations rest below same =
+    let exponents : 85 * (i * rotations) % 255 ≡ 85 * (i * rest) % 255 =
+    each_of_three (λ i. 85 * (i * rotations) % 255 ≡ 85 * (i * rest) % 255) (omega arith) (omega (arith, same)) (omega (arith, same)) i below in
+    sym (power-alpha-mod (85 * (i * rotations))) ∙ ap (power alpha) exponents ∙ power-alpha-mod (85 * (i * rest))
 
--- a third that isn't turned
-pub turned_none : (i turns b : ℕ) → i < 3 → turns % 3 ≡ 0 → b < 256 → b ≡ product b (power alpha (85 * (i * turns)))
-turned_none i turns b below rest byte =
+-- a third that isn't rotated
+pub rotated_none : (i rotations b : ℕ) → i < 3 → rotations % 3 ≡ 0 → b < 256 → b ≡ product b (power alpha (85 * (i * rotations)))
+rotated_none i rotations b below rest byte =
     let none : 85 * (i * 0) ≡ 0 = omega arith in
-    sym (ap (product b) (turns_same i turns 0 below rest ∙ ap (power alpha) none ∙ power-zero alpha) ∙ product-one b byte)
+    sym (ap (product b) (rotations_same i rotations 0 below rest ∙ ap (power alpha) none ∙ power-zero alpha) ∙ product-one b byte)
 
--- one that is turned i times
-pub turned_once : (i turns a b c : ℕ) → i < 3 → turns % 3 ≡ 1 → a < 256 → third_byte i b c a ≡ product (third_byte i a b c) (power alpha (85 * (i * turns)))
-turned_once i turns a b c below rest byte =
+-- one that is rotated i times
+pub rotated_once : (i rotations a b c : ℕ) → i < 3 → rotations % 3 ≡ 1 → a < 256 → third_byte i b c a ≡ product (third_byte i a b c) (power alpha (85 * (i * rotations)))
+rotated_once i rotations a b c below rest byte =
     let one : 85 * (i * 1) ≡ 85 * i = omega arith in
-    third-turned i a b c byte ∙ ap (product (third_byte i a b c)) (sym (turns_same i turns 1 below rest ∙ ap (power alpha) one))
+    third-rotated i a b c byte ∙ ap (product (third_byte i a b c)) (sym (rotations_same i rotations 1 below rest ∙ ap (power alpha) one))
 
--- and one that is turned 2 i times
-pub turned_twice : (i turns a b c : ℕ) → i < 3 → turns % 3 ≡ 2 → a < 256 → b < 256 → third_byte i c a b ≡ product (third_byte i a b c) (power alpha (85 * (i * turns)))
-turned_twice i turns a b c below rest byte_a byte_b =
+-- and one that is rotated 2 i times
+pub rotated_twice : (i rotations a b c : ℕ) → i < 3 → rotations % 3 ≡ 2 → a < 256 → b < 256 → third_byte i c a b ≡ product (third_byte i a b c) (power alpha (85 * (i * rotations)))
+rotated_twice i rotations a b c below rest byte_a byte_b =
     let two : 85 * (i * 2) ≡ 85 * i + 85 * i = omega arith in
-    third-turned i b c a byte_b
-    ∙ ap (λ t. product t (power alpha (85 * i))) (third-turned i a b c byte_a)
+    third-rotated i b c a byte_b
+    ∙ ap (λ t. product t (power alpha (85 * i))) (third-rotated i a b c byte_a)
     ∙ product-assoc (third_byte i a b c) (power alpha (85 * i)) (power alpha (85 * i))
-    ∙ ap (product (third_byte i a b c)) (sym (power-add alpha (85 * i) (85 * i)) ∙ sym (turns_same i turns 2 below rest ∙ ap (power alpha) two))
+    ∙ ap (product (third_byte i a b c)) (sym (power-add alpha (85 * i) (85 * i)) ∙ sym (rotations_same i rotations 2 below rest ∙ ap (power alpha) two))
 
--- what is stored of a place, turned i times more for each piece after its own
+-- what is stored of a place, rotated i times more for each piece after its own
 pub stored_back : (i q b : ℕ) → i < 3 → b < 256 → product (product b (power alpha (85 * (i * (2 * (4 - q / 17)))))) (power alpha (85 * (i * (4 - q / 17)))) ≡ b
 stored_back i q b below byte =
     let n = 4 - q / 17 in
-    turned_back b (85 * (i * (2 * n))) (85 * (i * n)) byte
+    rotated_back b (85 * (i * (2 * n))) (85 * (i * n)) byte
     (each_of_three (λ i. (85 * (i * (2 * n)) + 85 * (i * n)) % 255 ≡ 0) (omega arith) (omega arith) (omega arith) i below)
 
 -- a third whose places are the pieces' sums has the word's values
@@ -306,17 +306,17 @@ third_byte-folded i q a b c padded long below is_a is_b is_c =
     is_c
 
 -- one place more
-pub thirds_more : (zeros : ℕ) (word : ℕ → List ℕ) (q to turns : ℕ) (thirds : List (List (List ℕ))) (a b c : List ℕ) (three : List (List ℕ))
-    → q < 85 → to ≡ q + 1 → turns ≡ 2 * (4 - q / 17)
+pub thirds_more : (zeros : ℕ) (word : ℕ → List ℕ) (q to rotations : ℕ) (thirds : List (List (List ℕ))) (a b c : List ℕ) (three : List (List ℕ))
+    → q < 85 → to ≡ q + 1 → rotations ≡ 2 * (4 - q / 17)
     → ((j : ℕ) → zeros + length (word j) ≡ 255)
     → AreStored zeros word q thirds
     → ((j : ℕ) → j < 32 → get_or a j 0 ≡ get_or (after_zeros zeros (word j)) q 0)
     → ((j : ℕ) → j < 32 → get_or b j 0 ≡ get_or (after_zeros zeros (word j)) (85 + q) 0)
     → ((j : ℕ) → j < 32 → get_or c j 0 ≡ get_or (after_zeros zeros (word j)) (170 + q) 0)
     → ((j : ℕ) → j < 32 → (get_or a j 0 < 256) × (get_or b j 0 < 256) × (get_or c j 0 < 256))
-    → ((i : ℕ) → i < 3 → HasLanes (line three i) (λ j. product (third_byte i (get_or a j 0) (get_or b j 0) (get_or c j 0)) (power alpha (85 * (i * turns)))))
+    → ((i : ℕ) → i < 3 → HasLanes (line three i) (λ j. product (third_byte i (get_or a j 0) (get_or b j 0) (get_or c j 0)) (power alpha (85 * (i * rotations)))))
     → AreStored zeros word to (set thirds q three)
-thirds_more zeros word q to turns thirds a b c three inside is_to is_turns whole has is_a is_b is_c bytes sums = record {
+thirds_more zeros word q to rotations thirds a b c three inside is_to is_rotations whole has is_a is_b is_c bytes sums = record {
   size = length-set thirds q three ∙ has.size;
   set = λ p i j below third lane.
       let long : length (after_zeros zeros (word j)) ≡ 255 = length-after_zeros zeros (word j) ∙ whole j in
@@ -327,7 +327,7 @@ thirds_more zeros word q to turns thirds a b c three inside is_to is_turns whole
             let byte : third_byte i (get_or a j 0) (get_or b j 0) (get_or c j 0) < 256 = plus-byte _ _ (product-byte _ _) (bytes j lane).2 in
             ap (λ vectors. product (place vectors i j) factor) (get_or-set_at thirds q p three [] same (omega arith))
             ∙ ap (λ b. product b factor) ((sums i third).each j lane)
-            ∙ ap (λ n. product (product (third_byte i (get_or a j 0) (get_or b j 0) (get_or c j 0)) (power alpha (85 * (i * n)))) factor) is_turns
+            ∙ ap (λ n. product (product (third_byte i (get_or a j 0) (get_or b j 0) (get_or c j 0)) (power alpha (85 * (i * n)))) factor) is_rotations
             ∙ ap (λ n. product (product (third_byte i (get_or a j 0) (get_or b j 0) (get_or c j 0)) (power alpha (85 * (i * (2 * (4 - q / 17)))))) (power alpha (85 * (i * (4 - n / 17))))) same
             ∙ stored_back i q _ third byte
             ∙ third_byte-folded i q (get_or a j 0) (get_or b j 0) (get_or c j 0) (after_zeros zeros (word j)) long inside (is_a j lane) (is_b j lane) (is_c j lane)

@@ -9,7 +9,7 @@ use Rattle.std.proofs.lemmas.List.FromFn.{get_or-map-range_with_len}
 use Rattle.std.proofs.lemmas.List.{get_or_append_left, get_or-append-add}
 use Rattle.coding.specs.Rows.{line, place}
 
--- lanes of two vectors in turns, lane n from lane f n
+-- lanes of two vectors alternating, lane n from lane f n
 abbrev in_turns : (ℕ → ℕ) → List ℕ → List ℕ → List ℕ
 in_turns f a b = map (λ n. get_or (a ++ b) (32 * (n % 2) + f n) 0) (range_with_len 0 32)
 
@@ -28,9 +28,9 @@ in_turns-odd f a b n size below odd =
     ∙ get_or-append-add a b (f n) 0
 
 -- the vectors below `to` have the places of 32 rows from `top` on
-pub record HasPlaces (rows : List (List ℕ)) (top to : ℕ) (turned : List (List ℕ)) : Type 0 where
-  pub lanes : (k : ℕ) → k < to → length (line turned k) ≡ 32
-  pub set : (k n : ℕ) → k < to → n < 32 → place turned k n ≡ place rows (top + n) k
+pub record HasPlaces (rows : List (List ℕ)) (top to : ℕ) (transposed : List (List ℕ)) : Type 0 where
+  pub lanes : (k : ℕ) → k < to → length (line transposed k) ≡ 32
+  pub set : (k n : ℕ) → k < to → n < 32 → place transposed k n ≡ place rows (top + n) k
 
 -- sixteen vectors more
 pub places_more : (rows : List (List ℕ)) (top at : ℕ) (before after tile : List (List ℕ))
@@ -40,7 +40,7 @@ pub places_more : (rows : List (List ℕ)) (top at : ℕ) (before after tile : L
     → ((k : ℕ) → k < 16 → length (line tile k) ≡ 32)
     → ((k n : ℕ) → k < 16 → n < 32 → place tile k n ≡ place rows (top + n) (at + k))
     → HasPlaces rows top (at + 16) after
-places_more rows top at before after tile kept set has lanes turned = record {
+places_more rows top at before after tile kept set has lanes transposed = record {
   lanes = λ k below.
       elim (cases_lt k at) [
         | inl under ↦ ap length (kept k under) ∙ has.lanes k under
@@ -55,7 +55,7 @@ places_more rows top at before after tile kept set has lanes turned = record {
             let whole : at + (k - at) ≡ k = omega arith in
             ap (λ m. place after m n) (sym whole)
             ∙ ap (λ row. get_or row n 0) (set (k - at) (omega arith))
-            ∙ turned (k - at) n (omega arith) lane
+            ∙ transposed (k - at) n (omega arith) lane
             ∙ ap (place rows (top + n)) whole
       ];
 }

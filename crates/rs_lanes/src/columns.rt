@@ -15,11 +15,11 @@ ghost use Rattle.rs_lanes.specs.Inner.Lanes.{HasLanes};
 ghost use Rattle.rs_lanes.specs.Inner.Parity.{filled};
 ghost use Rattle.rs_lanes.specs.Inner.Thirds.{after_zeros, third, AreStored, IsThird};
 
+use crate::fold3::{rotated_thirds, values_of};
 use crate::lanes::{load, store};
 use crate::matrices::PO_MATRIX;
 use crate::parity::parity_of;
 use crate::row::Row;
-use crate::thirds::{turned_thirds, values_of};
 use std::simd::prelude::*;
 
 /// Sets all bytes of sixteen rows to the outer parity of 192 rows: each column is then followed by its parity. What
@@ -133,7 +133,7 @@ fn put_thirds<T: Row>(rows: &[T], count: usize, at: usize, thirds: &mut [[u8x32;
     ensures bytes { (j : ℕ) → j < 32 → All IsByte (column (map T.word rows.now) (at + j)) }
     ensures thirds { (i j : ℕ) → i < 3 → j < 32 → IsThird i (filled 208 (column (map T.word rows.now) (at + j))) (third thirds.new i j) }
 {
-    // There is a call for each piece, so that its turns are a constant where this is inlined.
+    // There is a call for each piece, so that its rotations are a constant where this is inlined.
     put_piece(rows, count, at, 0, thirds);
     put_piece(rows, count, at, 1, thirds);
     put_piece(rows, count, at, 2, thirds);
@@ -141,7 +141,7 @@ fn put_thirds<T: Row>(rows: &[T], count: usize, at: usize, thirds: &mut [[u8x32;
     put_piece(rows, count, at, 4, thirds);
 }
 
-// Sets one of the five pieces of all thirds, turned as `fifths` needs it; the pieces before it stay. Place `place` of a
+// Sets one of the five pieces of all thirds, rotated as `fold5` needs it; the pieces before it stay. Place `place` of a
 // third is made of that place of the word's three pieces.
 #[inline(always)]
 fn put_piece<T: Row>(
@@ -160,7 +160,7 @@ fn put_piece<T: Row>(
 {
     for q in 0..17 {
         let place = 17 * piece + q;
-        thirds[place] = turned_thirds(
+        thirds[place] = rotated_thirds(
             2 * (4 - piece),
             padded(rows, count, at, place),
             padded(rows, count, at, 85 + place),

@@ -10,7 +10,7 @@ ghost use Rattle.coding.specs.Rows.{place};
 ghost use Rattle.rs_lanes.specs.Inner.Lanes.{HasLanes};
 ghost use Rattle.rs_lanes.specs.Inner.Tables.{IsTable};
 
-use crate::factors::products;
+use crate::gf_tables::products;
 use std::simd::prelude::*;
 
 /// The sum of two vectors.
@@ -69,10 +69,10 @@ pub fn store(lanes: u8x32, row: &mut [u8], at: usize)
 
 /// The product of each lane and the factor of the table. A product is linear: it is the sum of those with the low and
 /// with the high half of the lane. The table has all that is needed of the factor: its products with the sixteen low
-/// nibbles, and with the sixteen high ones. `thirds` and `fifths` call this and not `multiple`, since their contracts
+/// nibbles, and with the sixteen high ones. `fold3` and `fold5` call this and not `multiple`, since their contracts
 /// cite `HasLanes` too.
 #[inline(always)]
-pub fn times(table: &[[u8; 16]; 2], lanes: u8x32) -> u8x32
+pub fn mul_const(table: &[[u8; 16]; 2], lanes: u8x32) -> u8x32
     ensures { (factor : ℕ) → IsTable factor table.now → HasLanes result (λ k. product (slice_index lanes k) factor) }
 {
     xor(
@@ -88,7 +88,7 @@ pub fn multiple(lanes: u8x32, factor: u8) -> u8x32
     ensures size { length result ≡ 32 }
     ensures each { (k : ℕ) → k < 32 → slice_index result k ≡ product (slice_index lanes k) factor }
 {
-    times(&products(factor), lanes)
+    mul_const(&products(factor), lanes)
 }
 
 /// The sum of a vector and a multiple of another: the step of each sum of multiples, here in `parity` and in decoders.

@@ -9,16 +9,17 @@
 //! - [`transposing`]: 32 rows, transposed: vectors, one for each place.
 //! - [`points`]: products and powers of sixteen bytes at once.
 //! - `lanes`: sums, products, loads and stores of vectors, and where all of several are zero.
-//! - `thirds`: the values of words, in each lane.
-//! - `fifths`: the pieces of a third, added up for five values at once.
+//! - `fold3`: the values of words, in each lane.
+//! - `fold5`: the pieces of a third, added up for five values at once.
 //! - `parity`: the parity of words by their values, in each lane.
 //! - `matrices`: the parity that has one value 1 and all others 0, for each value of both codes.
-//! - `factors`: the products of each byte with each nibble, and the powers of each power of alpha.
+//! - `gf_tables`: the products of each byte with each nibble, and the powers of each power of alpha.
 #![tactic(auto)]
 
 pub mod columns;
-mod factors;
-mod fifths;
+mod fold3;
+mod fold5;
+mod gf_tables;
 mod lanes;
 mod matrices;
 mod parity;
@@ -27,12 +28,11 @@ pub mod row;
 pub mod rows;
 #[cfg(test)]
 mod tests;
-mod thirds;
 pub mod transposing;
 
 pub use columns::{column_values, outer_parity, parity_of_columns};
 pub use lanes::{any_of, are_zeros, load, multiple, store, with_multiple};
-pub use points::{powers, scaled};
+pub use points::{mul_scalar, powers};
 pub use row::Row;
 pub use rows::{inner_parity, row_values, transposed_values};
 pub use transposing::load_transposed;

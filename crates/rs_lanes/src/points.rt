@@ -6,13 +6,13 @@ ghost use Rattle.std.specs.Prelude.{◌≡◌, ℕ, ◌*◌, ◌/◌, ◌%◌, �
 ghost use Rattle.coding.specs.Field.{alpha, product, power};
 ghost use Rattle.rs_lanes.specs.Inner.Lanes.{HoldsLanes};
 
-use crate::factors::{powers_of, products};
+use crate::gf_tables::{powers_of, products};
 use std::simd::prelude::*;
 
 /// The product of each lane and a factor: the sum of those of its low nibble and of its high one, which the factor's
 /// table has.
 #[inline(always)]
-pub fn scaled(lanes: u8x16, factor: u8) -> u8x16
+pub fn mul_scalar(lanes: u8x16, factor: u8) -> u8x16
     ensures size { length result ≡ 16 }
     ensures each { (k : ℕ) → k < 16 → slice_index result k ≡ product (slice_index lanes k) factor }
 {

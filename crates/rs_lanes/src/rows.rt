@@ -15,9 +15,9 @@ ghost use Rattle.coding.specs.Rows.{line, place, column};
 ghost use Rattle.rs_lanes.specs.Inner.Parity.{filled};
 ghost use Rattle.rs_lanes.specs.Inner.Thirds.{after_zeros, third, AreStored, IsThird};
 
+use crate::fold3::{rotated_thirds, values_of};
 use crate::matrices::PI_MATRIX;
 use crate::parity::parity_of;
-use crate::thirds::{turned_thirds, values_of};
 use crate::transposing::transpose;
 use std::simd::prelude::*;
 
@@ -92,7 +92,7 @@ fn put_thirds(transposed: &[u8x32; 182], count: usize, thirds: &mut [[u8x32; 3];
     ensures bytes { (n : ℕ) → n < 32 → All IsByte (take count (column transposed.now n)) }
     ensures thirds { (i n : ℕ) → i < 3 → n < 32 → IsThird i (filled 182 (take count (column transposed.now n))) (third thirds.new i n) }
 {
-    // There is a call for each piece, so that its turns are a constant where this is inlined.
+    // There is a call for each piece, so that its rotations are a constant where this is inlined.
     put_piece(transposed, count, 0, thirds);
     put_piece(transposed, count, 1, thirds);
     put_piece(transposed, count, 2, thirds);
@@ -100,7 +100,7 @@ fn put_thirds(transposed: &[u8x32; 182], count: usize, thirds: &mut [[u8x32; 3];
     put_piece(transposed, count, 4, thirds);
 }
 
-// Sets one of the five pieces of all thirds, turned as `fifths` needs it; the pieces before it stay. Place `place` of a
+// Sets one of the five pieces of all thirds, rotated as `fold5` needs it; the pieces before it stay. Place `place` of a
 // third is made of that place of the word's three pieces.
 #[inline(always)]
 fn put_piece(transposed: &[u8x32; 182], count: usize, piece: usize, thirds: &mut [[u8x32; 3]; 85])
@@ -111,7 +111,7 @@ fn put_piece(transposed: &[u8x32; 182], count: usize, piece: usize, thirds: &mut
 {
     for q in 0..17 {
         let place = 17 * piece + q;
-        thirds[place] = turned_thirds(
+        thirds[place] = rotated_thirds(
             2 * (4 - piece),
             padded(transposed, count, place),
             padded(transposed, count, 85 + place),

@@ -2,7 +2,7 @@
 //! without vectors.
 ghost use Rattle.std.specs.Prelude.{◌≡◌, ◌<◌, ◌≤◌, length, vec_len, IfOk};
 
-use crate::{any_of, column_values, inner_parity, outer_parity, powers, row_values, scaled};
+use crate::{any_of, column_values, inner_parity, mul_scalar, outer_parity, powers, row_values};
 use rand_xoshiro::SplitMix64;
 use rand_xoshiro::rand_core::{Rng, SeedableRng};
 use rs_code::{Pi, Po};
@@ -123,16 +123,16 @@ fn lanes_are_multiplied(rt: HostRuntime) -> Result<(), Fail> {
         0x00, 0x01, 0x02, 0x03, 0x0F, 0x10, 0x1D, 0x53, 0x7F, 0x80, 0x8E, 0xA5, 0xCA, 0xF0, 0xF4,
         0xFF,
     ]);
-    assert!(rt; scaled(lanes, 0x00) == u8x16::splat(0));
-    assert!(rt; scaled(lanes, 0x01) == lanes);
+    assert!(rt; mul_scalar(lanes, 0x00) == u8x16::splat(0));
+    assert!(rt; mul_scalar(lanes, 0x01) == lanes);
     // 0x80 times 0x02 is 0x1D, and 0x8E times 0x02 is 0x01.
-    let doubled = scaled(lanes, 0x02);
+    let doubled = mul_scalar(lanes, 0x02);
     assert_eq!(rt;
         (doubled[1], doubled[8], doubled[9], doubled[10]),
         (0x02, 0xFE, 0x1D, 0x01)
     );
     // 0x03 times 0xF4 is 0x01.
-    let thrice = scaled(lanes, 0x03);
+    let thrice = mul_scalar(lanes, 0x03);
     assert_eq!(rt; (thrice[1], thrice[3], thrice[14]), (0x03, 0x05, 0x01));
     Ok(())
 }
@@ -148,7 +148,7 @@ fn lanes_are_powers(rt: HostRuntime) -> Result<(), Fail> {
     // Alpha^254 is the inverse of alpha.
     let last = powers(254);
     assert_eq!(rt;
-        (last[0], last[1], scaled(last, 0x02)[1]),
+        (last[0], last[1], mul_scalar(last, 0x02)[1]),
         (0x01, 0x8E, 0x01)
     );
     Ok(())

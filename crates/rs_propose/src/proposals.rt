@@ -16,7 +16,7 @@ use crate::roots::roots;
 use crate::tower::{bytes, logs, logs_of_zero, pairs};
 use gf_field::log;
 use rs_decode::Fix;
-use rs_lanes::{powers, scaled};
+use rs_lanes::{mul_scalar, powers};
 use std::simd::prelude::*;
 
 /// What is proposed for each of 32 rows of 182 bytes, ten of them parity: up to five bytes to add, and the powers of
@@ -125,7 +125,7 @@ fn with_byte(sums: u8x16, place: usize, byte: u8) -> u8x16
     ensures each { (k : ℕ) → k < 16
         → slice_index result k ≡ plus (slice_index sums k) (product byte (power (power alpha k) (181 - place))) }
 {
-    sums ^ scaled(powers(181 - place), byte)
+    sums ^ mul_scalar(powers(181 - place), byte)
 }
 
 // Whether the first sums are these syndromes. No branch hangs on one of them, so that all are compared at once: the

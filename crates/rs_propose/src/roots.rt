@@ -10,7 +10,7 @@
 //! stays in registers.
 ghost use Rattle.std.specs.Prelude.{◌<◌};
 
-use rs_lanes::scaled;
+use rs_lanes::mul_scalar;
 use std::simd::prelude::*;
 
 // The elements that have one bit.
@@ -88,7 +88,7 @@ fn roots_of_half(taps: &[u8x16; 5]) -> [u8x16; 5] {
         let bit = 4 + flipped(step);
         value = value ^ changes[bit];
         point = point ^ u8x16::splat(UNITS[bit]);
-        turn(&mut changes, &pairs[bit]);
+        update_changes(&mut changes, &pairs[bit]);
         walk(&mut found, value, point, &inner, &changes);
     }
     found
@@ -121,10 +121,10 @@ fn singles_of(taps: &[u8x16; 5]) -> [u8x16; 8] {
     let mut singles = [u8x16::splat(0); 8];
     for bit in 0..8 {
         singles[bit] = u8x16::splat(FIFTH_POWERS[bit])
-            ^ scaled(taps[0], FOURTH_POWERS[bit])
-            ^ scaled(taps[1], CUBES[bit])
-            ^ scaled(taps[2], SQUARES[bit])
-            ^ scaled(taps[3], UNITS[bit]);
+            ^ mul_scalar(taps[0], FOURTH_POWERS[bit])
+            ^ mul_scalar(taps[1], CUBES[bit])
+            ^ mul_scalar(taps[2], SQUARES[bit])
+            ^ mul_scalar(taps[3], UNITS[bit]);
     }
     singles
 }
@@ -136,7 +136,7 @@ fn pairs_of(cubic: u8x16) -> [[u8x16; 8]; 8] {
     let mut pairs = [[u8x16::splat(0); 8]; 8];
     for a in 0..8 {
         for b in 0..a {
-            let pair = u8x16::splat(FIFTH_PAIRS[a][b]) ^ scaled(cubic, CUBE_PAIRS[a][b]);
+            let pair = u8x16::splat(FIFTH_PAIRS[a][b]) ^ mul_scalar(cubic, CUBE_PAIRS[a][b]);
             pairs[a][b] = pair;
             pairs[b][a] = pair;
         }
@@ -154,7 +154,7 @@ fn inner_changes(singles: &[u8x16; 8], pairs: &[[u8x16; 8]; 8]) -> [u8x16; 16] {
     for step in 1..16u32 {
         let bit = flipped(step);
         inner[step as usize] = changes[bit];
-        turn(&mut changes, &pairs[bit]);
+        update_changes(&mut changes, &pairs[bit]);
     }
     inner
 }
@@ -162,7 +162,7 @@ fn inner_changes(singles: &[u8x16; 8], pairs: &[[u8x16; 8]; 8]) -> [u8x16; 16] {
 // Adds to the changes what they share with a bit that changes. It adds nothing to the change of this bit itself. Added
 // once more, it takes that away, so that it serves a bit that is set and one that is cleared.
 #[inline(always)]
-fn turn(changes: &mut [u8x16; 8], pairs: &[u8x16; 8]) {
+fn update_changes(changes: &mut [u8x16; 8], pairs: &[u8x16; 8]) {
     for bit in 0..8 {
         changes[bit] = changes[bit] ^ pairs[bit];
     }

@@ -1,4 +1,4 @@
--- What each turn of the loop in `open_all` keeps.
+-- What each iteration of the loop in `open_all` keeps.
 use Rattle.std.proofs.Common.{◌≡◌, vec_len}
 use Rattle.cap_main.proofs.open_all.Given as goal
 

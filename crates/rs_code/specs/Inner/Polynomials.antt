@@ -11,12 +11,12 @@ sum_of (x ∷ xs) [] = []
 sum_of (x ∷ xs) (y ∷ ys) = plus x y ∷ sum_of xs ys
 
 -- the word with each byte multiplied by a factor
-unfoldable pub scaled : ℕ → List ℕ → List ℕ
-scaled factor word = map (product factor) word
+unfoldable pub mul_scalar : ℕ → List ℕ → List ℕ
+mul_scalar factor word = map (product factor) word
 
 -- a polynomial with the leading coefficient 1, which isn't written, times (x + root)
 unfoldable pub times_root : List ℕ → ℕ → List ℕ
-times_root generator root = sum_of (generator ++ 0 ∷ []) (scaled root (1 ∷ generator))
+times_root generator root = sum_of (generator ++ 0 ∷ []) (mul_scalar root (1 ∷ generator))
 
 -- The bytes read, followed by the register, have the value 0 wherever the generator has. So the register is the
 -- remainder of the division by the generator, and neither division nor remainder is named.

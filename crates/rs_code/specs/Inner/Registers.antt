@@ -2,7 +2,7 @@
 use Rattle.std.specs.Prelude.{◌≡◌, ℕ, ◌-◌, ◌*◌, ◌/◌, ◌%◌, ◌^◌, ◌<◌, List, [], ◌∷◌, ◌++◌, length, replicate, get_or}
 use Rattle.std.specs.Int.{bytes_high_first}
 use Rattle.coding.specs.Field.{plus}
-use Rattle.rs_code.specs.Inner.Polynomials.{scaled}
+use Rattle.rs_code.specs.Inner.Polynomials.{mul_scalar}
 
 -- the lowest k bytes of a number, the highest of them first
 unfoldable pub register_bytes : ℕ → ℕ → List ℕ
@@ -14,7 +14,7 @@ Holds register bytes = register_bytes 16 register ≡ bytes ++ replicate (16 - l
 
 -- at the place of each factor below n, the table has the generator times this factor
 abbrev pub HasMultiples : List ℕ → List ℕ → ℕ → Type 0
-HasMultiples generator table n = (factor : ℕ) → factor < n → Holds (get_or table factor 0) (scaled factor generator)
+HasMultiples generator table n = (factor : ℕ) → factor < n → Holds (get_or table factor 0) (mul_scalar factor generator)
 
 -- the register after one more byte; the factor is the sum of the byte that leaves the register and the one that comes
 unfoldable pub after_byte : List ℕ → ℕ → ℕ → ℕ

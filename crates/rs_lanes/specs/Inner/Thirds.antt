@@ -5,7 +5,7 @@ use Rattle.std.specs.Prelude.{◌≡◌, ℕ, zero, suc, ◌+◌, ◌-◌, ◌*�
 use Rattle.std.specs.List.{range_with_len}
 use Rattle.coding.specs.Field.{alpha, plus, product, power}
 use Rattle.coding.specs.Words.{value}
-use Rattle.rs_code.specs.Inner.Polynomials.{sum_of, scaled}
+use Rattle.rs_code.specs.Inner.Polynomials.{sum_of, mul_scalar}
 use Rattle.coding.specs.Rows.{place}
 
 -- a word after this many zeros
@@ -15,14 +15,14 @@ after_zeros count word = replicate count 0 ++ word
 -- the pieces 0 to i of a word, each of this size, added up to one by Horner's rule in the factor
 unfoldable pub folded : ℕ → ℕ → List ℕ → ℕ → List ℕ
 folded size factor word zero = take size word
-folded size factor word (suc i) = sum_of (scaled factor (folded size factor word i)) (take size (drop (size * suc i) word))
+folded size factor word (suc i) = sum_of (mul_scalar factor (folded size factor word i)) (take size (drop (size * suc i) word))
 
 -- a byte of the third with number i, by the three pieces' bytes: Horner's rule in alpha^(85 i)
 abbrev pub third_byte : ℕ → ℕ → ℕ → ℕ → ℕ
 third_byte i a b c = plus (product (power alpha (85 * i)) (plus (product (power alpha (85 * i)) a) b)) c
 
 -- a place of the third with number i in lane j, by what is stored of it. With n of the five pieces after its own, it is
--- stored turned 2 i n times: turned i n times more it is itself, since three turns change nothing
+-- stored rotated 2 i n times: rotated i n times more it is itself, since three rotations change nothing
 abbrev pub third_at : List (List (List ℕ)) → ℕ → ℕ → ℕ → ℕ
 third_at thirds i j q = product (place (slice_index_or thirds q []) i j) (power alpha (85 * (i * (4 - q / 17))))
 

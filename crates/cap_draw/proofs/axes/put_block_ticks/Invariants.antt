@@ -1,4 +1,4 @@
--- What each turn of the loop in `put_block_ticks` keeps.
+-- What each iteration of the loop in `put_block_ticks` keeps.
 use Rattle.std.proofs.Common.{◌≡◌, ◌≤◌, ◌+◌, ◌*◌, ◌++◌, length, min}
 use Rattle.cap_draw.specs.Axes.{block_tick}
 use Rattle.cap_draw.specs.Bars.{texts}

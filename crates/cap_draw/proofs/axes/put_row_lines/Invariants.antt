@@ -1,4 +1,4 @@
--- What each turn of the loop in `put_row_lines` keeps.
+-- What each iteration of the loop in `put_row_lines` keeps.
 use Rattle.std.proofs.Common.{◌≡◌, ◌≤◌, ◌+◌, ◌*◌, ◌++◌, length}
 use Rattle.cap_draw.specs.Axes.{row_lines}
 use Rattle.cap_draw.proofs.axes.put_row_lines.Given as goal

@@ -1,4 +1,4 @@
--- What each turn of the loop in `put_columns` keeps.
+-- What each iteration of the loop in `put_columns` keeps.
 use Rattle.std.proofs.Common.{◌≡◌, ◌≤◌, ◌+◌, ◌*◌, ◌++◌, length}
 use Rattle.cap_draw.specs.Bars.{columns_text, most_of}
 use Rattle.cap_draw.proofs.bars.put_columns.Given as goal

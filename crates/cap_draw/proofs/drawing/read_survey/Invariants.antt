@@ -1,4 +1,4 @@
--- What each turn of the loop in `read_survey` keeps, and what it has left: no survey has 2^30 bytes.
+-- What each iteration of the loop in `read_survey` keeps, and what it has left: no survey has 2^30 bytes.
 use Rattle.std.proofs.Common.{◌≡◌, ◌<◌, ◌-◌, ◌^◌, ◌++◌, ℕ, List}
 use Rattle.std.specs.Io.KnownBytes.{Consumes}
 use Rattle.cap_survey.specs.Survey.{progress, reading_on, survey_of}

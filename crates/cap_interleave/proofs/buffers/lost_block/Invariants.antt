@@ -1,4 +1,4 @@
--- What each turn of the loop in `lost_block` keeps.
+-- What each iteration of the loop in `lost_block` keeps.
 use Rattle.std.proofs.Common.{◌≡◌, ◌*◌, vec_len}
 use Rattle.cap_interleave.specs.Blocks.{lost_rows}
 use Rattle.cap_interleave.proofs.buffers.lost_block.Given as goal

@@ -9,13 +9,13 @@ loop-k-init g c = begins g.S.Source.seen c.args.buffers.now c.args.captures.now 
 
 pub returns-in-Err : goal.returns-in-Err
 returns-in-Err g c =
-    finishes g.S.Source.seen (task_of c.args.buffers.now) c.loop-k.k c.loop-k.buffers c.turn.new.buffers c.args.captures.now c.loop-k.captures c.turn.new.captures
-    (g.K.Sink.seen c.args.out.now) (g.K.Sink.seen c.loop-k.out) (g.K.Sink.seen c.turn.new.out) c.in-Err.end c.loop-k.invariant (omega (arith, c.loop-k-test.true)) c.in-Err.ensures
+    finishes g.S.Source.seen (task_of c.args.buffers.now) c.loop-k.k c.loop-k.buffers c.interleave_unit.new.buffers c.args.captures.now c.loop-k.captures c.interleave_unit.new.captures
+    (g.K.Sink.seen c.args.out.now) (g.K.Sink.seen c.loop-k.out) (g.K.Sink.seen c.interleave_unit.new.out) c.in-Err.end c.loop-k.invariant (omega (arith, c.loop-k-test.true)) c.in-Err.ensures
 
 pub loop-k-preserved : goal.loop-k-preserved
 loop-k-preserved g c =
-    next g.S.Source.seen (task_of c.args.buffers.now) c.loop-k.k c.loop-k.buffers c.turn.new.buffers c.args.captures.now c.loop-k.captures c.turn.new.captures
-    (g.K.Sink.seen c.args.out.now) (g.K.Sink.seen c.loop-k.out) c.loop-k.invariant c.in_default.ensures.0 (g.K.Sink.seen c.turn.new.out)
+    next g.S.Source.seen (task_of c.args.buffers.now) c.loop-k.k c.loop-k.buffers c.interleave_unit.new.buffers c.args.captures.now c.loop-k.captures c.interleave_unit.new.captures
+    (g.K.Sink.seen c.args.out.now) (g.K.Sink.seen c.loop-k.out) c.loop-k.invariant c.in_default.ensures.0 (g.K.Sink.seen c.interleave_unit.new.out)
     c.in_default.ensures.1 c.in_default.ensures.2 c.in_default.ensures.3
 
 pub returns : goal.returns

@@ -1,4 +1,4 @@
--- What each turn of the loop in `interleave_loop` keeps.
+-- What each iteration of the loop in `interleave_loop` keeps.
 use Rattle.cap_interleave.specs.Inner.{task_of}
 use Rattle.cap_interleave.proofs.LoopLemmas.{IsAfter}
 use Rattle.cap_interleave.proofs.interleaving.interleave_loop.Given as goal

@@ -1,4 +1,4 @@
--- What each turn of the loop in `read_unit` keeps.
+-- What each iteration of the loop in `read_unit` keeps.
 use Rattle.cap_interleave.specs.Inner.{AreReadTo}
 use Rattle.cap_interleave.proofs.interleaving.read_unit.Given as goal
 

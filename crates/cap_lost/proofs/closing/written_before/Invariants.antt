@@ -1,4 +1,4 @@
--- What each turn of the loop in `written_before` keeps: the blocks that it passed hold no image.
+-- What each iteration of the loop in `written_before` keeps: the blocks that it passed hold no image.
 use Rattle.std.proofs.Common.{◌≡◌, take}
 use Rattle.dvd_layout.specs.Place.{image_before}
 use Rattle.dvd_layout.specs.Plan.{plan_of}

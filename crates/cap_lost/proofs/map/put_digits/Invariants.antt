@@ -1,4 +1,4 @@
--- What each turn of the loop in `put_digits` keeps: the digits at the places that are left complete the text.
+-- What each iteration of the loop in `put_digits` keeps: the digits at the places that are left complete the text.
 use Rattle.std.proofs.Common.{◌≡◌, ◌+◌, ◌++◌}
 use Rattle.arrayvec.specs.ArrayVec.{array_vec_len}
 use Rattle.dvd_report.specs.Lines.{hexadecimal}

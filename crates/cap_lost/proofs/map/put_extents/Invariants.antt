@@ -1,4 +1,4 @@
--- What each turn of the loop in `put_extents` keeps: the lines of the extents that are left complete the text.
+-- What each iteration of the loop in `put_extents` keeps: the lines of the extents that are left complete the text.
 use Rattle.std.proofs.Common.{◌≡◌, ◌≤◌, ◌*◌, ◌++◌, drop}
 use Rattle.arrayvec.specs.ArrayVec.{array_vec_len}
 use Rattle.cap_lost.specs.Map.{last_end, extent_lines}

@@ -1,4 +1,4 @@
--- What each turn of the loop in `write_map` keeps, and what it has left.
+-- What each iteration of the loop in `write_map` keeps, and what it has left.
 use Rattle.std.proofs.Common.{length}
 use Rattle.cap_lost.specs.Inner.{IsUnwritten}
 use Rattle.cap_lost.specs.Map.{lines_from, map_text}

@@ -1,4 +1,4 @@
--- What each turn of the loop in `read_report` keeps, and what it has left: a report has fewer than 2 ^ 33 lines.
+-- What each iteration of the loop in `read_report` keeps, and what it has left: a report has fewer than 2 ^ 33 lines.
 use Rattle.std.proofs.Common.{◌+◌, ◌-◌, ◌*◌, ◌^◌, length}
 use Rattle.cap_lost.specs.Inner.{HasCome}
 use Rattle.cap_lost.proofs.report.read_report.Given as goal

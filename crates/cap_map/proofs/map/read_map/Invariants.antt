@@ -1,4 +1,4 @@
--- What each turn of the loop in `read_map` keeps, and what it has left.
+-- What each iteration of the loop in `read_map` keeps, and what it has left.
 use Rattle.std.proofs.Common.{◌≡◌, ◌≤◌, ◌+◌, length}
 use Rattle.cap_map.specs.Fields.{lines_of}
 use Rattle.cap_map.specs.Inner.{read_of}

@@ -1,4 +1,4 @@
--- What each turn of the loop in `digits_in` keeps.
+-- What each iteration of the loop in `digits_in` keeps.
 use Rattle.std.proofs.Common.{◌≡◌, ◌<◌, ◌^◌, drop}
 use Rattle.cap_map.specs.Numbers.{with_digits}
 use Rattle.cap_map.proofs.number.digits_in.Given as goal

@@ -1,4 +1,4 @@
--- What each turn of the loop in `mark_byte` keeps.
+-- What each iteration of the loop in `mark_byte` keeps.
 use Rattle.std.proofs.Common.{◌≡◌}
 use Rattle.cap_mark.specs.Marks.{bits_of_marks, is_marked}
 use Rattle.cap_mark.proofs.marks.mark_byte.Given as goal

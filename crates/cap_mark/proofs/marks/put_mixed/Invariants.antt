@@ -1,4 +1,4 @@
--- What each turn of the loop in `put_mixed` keeps.
+-- What each iteration of the loop in `put_mixed` keeps.
 use Rattle.std.proofs.Common.{◌≡◌, ◌+◌, ◌*◌, ◌++◌}
 use Rattle.arrayvec.specs.ArrayVec.{array_vec_len}
 use Rattle.cap_mark.specs.Marks.{is_marked, mark_bytes}

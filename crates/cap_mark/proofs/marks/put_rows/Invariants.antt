@@ -1,4 +1,4 @@
--- What each turn of the loop in `put_rows` keeps.
+-- What each iteration of the loop in `put_rows` keeps.
 use Rattle.std.proofs.Common.{◌≡◌, ◌+◌, ◌*◌}
 use Rattle.arrayvec.specs.ArrayVec.{array_vec_len}
 use Rattle.cap_mark.specs.Frames.{marked_rows}

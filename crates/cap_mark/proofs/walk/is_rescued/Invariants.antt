@@ -1,4 +1,4 @@
--- What each turn of the loop in `is_rescued` keeps.
+-- What each iteration of the loop in `is_rescued` keeps.
 use Rattle.std.proofs.Common.{◌≡◌, drop}
 use Rattle.cap_map.specs.Spans.{is_rescued}
 use Rattle.cap_mark.proofs.walk.is_rescued.Given as goal

@@ -1,4 +1,4 @@
--- What each turn of the loop in `spans_from` keeps, and what it has left.
+-- What each iteration of the loop in `spans_from` keeps, and what it has left.
 use Rattle.std.proofs.Common.{length}
 use Rattle.cap_mark.specs.Walk.{AgreeFrom}
 use Rattle.cap_mark.proofs.walk.spans_from.Given as goal

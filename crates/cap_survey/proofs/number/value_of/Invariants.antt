@@ -1,4 +1,4 @@
--- What each turn of the loop in `value_of` keeps.
+-- What each iteration of the loop in `value_of` keeps.
 use Rattle.std.proofs.Common.{◌≡◌, ◌<◌, ◌^◌, drop}
 use Rattle.cap_survey.specs.Numbers.{with_digits}
 use Rattle.cap_survey.proofs.number.value_of.Given as goal

@@ -1,4 +1,4 @@
--- What each turn of the loop in `sum_pi` keeps.
+-- What each iteration of the loop in `sum_pi` keeps.
 use Rattle.std.proofs.Common.{◌≡◌, ◌≤◌, ◌*◌, take, sum_by}
 use Rattle.cap_survey.specs.Totals.{pi_of}
 use Rattle.cap_survey.proofs.totals.sum_pi.Given as goal

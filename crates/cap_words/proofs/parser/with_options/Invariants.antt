@@ -1,4 +1,4 @@
--- What each turn of the loop in `with_options` keeps.
+-- What each iteration of the loop in `with_options` keeps.
 use Rattle.std.proofs.Common.{◌≡◌, drop, map}
 use Rattle.clap.specs.Words.{app_of}
 use Rattle.cap_words.specs.Apps.{with_options}

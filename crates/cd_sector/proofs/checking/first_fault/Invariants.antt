@@ -1,4 +1,4 @@
--- What each turn of the loop in `first_fault` keeps.
+-- What each iteration of the loop in `first_fault` keeps.
 use Rattle.std.proofs.Common.{◌≡◌, ℕ, ◌<◌, get_or}
 use Rattle.cd_sector.proofs.checking.first_fault.Given as goal
 

@@ -1,4 +1,4 @@
--- What each turn of the loop in `faults` keeps.
+-- What each iteration of the loop in `faults` keeps.
 use Rattle.std.proofs.Common.{◌≡◌, ◌↔◌, ℕ, ◌*◌, ◌<◌, length, get_or}
 use Rattle.coding.specs.Words.{IsCodeword}
 use Rattle.coding.specs.Rows.{column}

@@ -1,4 +1,4 @@
--- What each turn of the loop in `values_at` keeps.
+-- What each iteration of the loop in `values_at` keeps.
 use Rattle.std.proofs.Common.{ℕ, ◌+◌, ◌<◌, take}
 use Rattle.coding.specs.Field.{alpha}
 use Rattle.coding.specs.Words.{value}

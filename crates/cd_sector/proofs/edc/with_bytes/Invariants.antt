@@ -1,4 +1,4 @@
--- What each turn of the loops in `with_bytes` keeps.
+-- What each iteration of the loops in `with_bytes` keeps.
 use Rattle.std.proofs.Common.{◌≡◌, drop}
 use Rattle.std.specs.List.{concat}
 use Rattle.cd_sector.specs.Inner.Register.{after_reading}

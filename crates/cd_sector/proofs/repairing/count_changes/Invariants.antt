@@ -1,4 +1,4 @@
--- What each turn of the loop in `count_changes` keeps.
+-- What each iteration of the loop in `count_changes` keeps.
 use Rattle.std.proofs.Common.{◌≡◌, ◌+◌, ◌≤◌, drop}
 use Rattle.coding.specs.Distance.{distance}
 use Rattle.cd_sector.proofs.repairing.count_changes.Given as goal

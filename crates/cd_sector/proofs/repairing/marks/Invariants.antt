@@ -1,4 +1,4 @@
--- What each turn of the loop in `marks` keeps.
+-- What each iteration of the loop in `marks` keeps.
 use Rattle.std.proofs.Common.{◌≡◌, ℕ, ◌-◌, ◌%◌, ◌<◌, ◌≤◌, length, get_or, false}
 use Rattle.cd_sector.specs.Words.{sector_place}
 use Rattle.cd_sector.proofs.repairing.marks.Given as goal

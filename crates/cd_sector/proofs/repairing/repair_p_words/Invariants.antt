@@ -1,4 +1,4 @@
--- What each turn of the loop in `repair_p_words` keeps.
+-- What each iteration of the loop in `repair_p_words` keeps.
 use Rattle.std.proofs.Common.{◌≡◌, ℕ, ◌<◌, ◌≤◌, length, get_or, false}
 use Rattle.cd_sector.specs.Repair.{is_lost, with_p_words}
 use Rattle.cd_sector.proofs.repairing.repair_p_words.Given as goal

@@ -1,4 +1,4 @@
--- What each turn of the loop in `repair_q_words` keeps.
+-- What each iteration of the loop in `repair_q_words` keeps.
 use Rattle.std.proofs.Common.{◌≡◌, ℕ, List, ◌-◌, ◌<◌, length, get_or, false}
 use Rattle.cd_sector.specs.Repair.{is_lost, with_q_words}
 use Rattle.cd_sector.proofs.repairing.repair_q_words.Given as goal

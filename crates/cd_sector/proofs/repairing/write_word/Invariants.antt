@@ -1,4 +1,4 @@
--- What each turn of the loop in `write_word` keeps.
+-- What each iteration of the loop in `write_word` keeps.
 use Rattle.std.proofs.Common.{◌≡◌, length}
 use Rattle.cd_sector.specs.Repair.{with_word_bytes}
 use Rattle.cd_sector.proofs.repairing.write_word.Given as goal

@@ -1,4 +1,4 @@
--- What each turn of the loop in `put_diagonals` keeps.
+-- What each iteration of the loop in `put_diagonals` keeps.
 use Rattle.std.proofs.Common.{◌≡◌, ℕ, ◌+◌, ◌*◌, ◌/◌, ◌%◌, ◌<◌, length, get_or}
 use Rattle.cd_sector.proofs.rows.put_diagonals.Given as goal
 

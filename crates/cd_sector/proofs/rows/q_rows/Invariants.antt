@@ -1,4 +1,4 @@
--- What each turn of the loop in `q_rows` keeps.
+-- What each iteration of the loop in `q_rows` keeps.
 use Rattle.std.proofs.Common.{◌≡◌, ℕ, ◌+◌, ◌<◌, length, get_or}
 use Rattle.coding.specs.Rows.{place}
 use Rattle.cd_sector.specs.Words.{sector_place}

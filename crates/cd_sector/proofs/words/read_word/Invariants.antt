@@ -1,4 +1,4 @@
--- What each turn of the loop in `read_word` keeps.
+-- What each iteration of the loop in `read_word` keeps.
 use Rattle.std.proofs.Common.{◌≡◌, ℕ, ◌<◌, get_or}
 use Rattle.cd_sector.specs.Words.{sector_place}
 use Rattle.cd_sector.proofs.words.read_word.Given as goal

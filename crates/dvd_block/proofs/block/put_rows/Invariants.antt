@@ -1,4 +1,4 @@
--- What each turn of the loop in `put_rows` keeps.
+-- What each iteration of the loop in `put_rows` keeps.
 use Rattle.std.proofs.Common.{◌≡◌, ℕ, ◌*◌, ◌<◌, ◌≤◌, ◌++◌, take, drop}
 use Rattle.coding.specs.Product.{line}
 use Rattle.dvd_block.proofs.block.put_rows.Given as goal

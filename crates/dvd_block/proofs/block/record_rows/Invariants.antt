@@ -1,4 +1,4 @@
--- What each turn of the loop in `record_rows` keeps.
+-- What each iteration of the loop in `record_rows` keeps.
 use Rattle.std.proofs.Common.{◌≡◌, ◌*◌, length, take}
 use Rattle.dvd_block.proofs.block.record_rows.Given as goal
 use Rattle.dvd_block.proofs.Recorded.{recorded}

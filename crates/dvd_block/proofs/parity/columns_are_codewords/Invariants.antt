@@ -1,4 +1,4 @@
--- What each turn of the loop in `columns_are_codewords` keeps.
+-- What each iteration of the loop in `columns_are_codewords` keeps.
 use Rattle.std.proofs.Common.{ℕ, ◌*◌, ◌<◌}
 use Rattle.coding.specs.Words.{IsCodeword}
 use Rattle.coding.specs.Product.{column}

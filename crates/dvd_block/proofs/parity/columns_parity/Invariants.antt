@@ -1,4 +1,4 @@
--- What each turn of the loop in `columns_parity` keeps.
+-- What each iteration of the loop in `columns_parity` keeps.
 use Rattle.std.proofs.Common.{◌≡◌, ℕ, ◌+◌, ◌*◌, ◌<◌, ◌++◌, length, take}
 use Rattle.coding.specs.Words.{IsCodeword}
 use Rattle.dvd_block.specs.Buffers.{lines_rows}

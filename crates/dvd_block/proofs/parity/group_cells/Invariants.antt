@@ -1,4 +1,4 @@
--- What each turn of the loop in `group_cells` keeps.
+-- What each iteration of the loop in `group_cells` keeps.
 use Rattle.std.proofs.Common.{◌≡◌, ℕ, ◌+◌, ◌-◌, ◌<◌}
 use Rattle.coding.specs.Product.{line, column}
 use Rattle.dvd_block.proofs.parity.group_cells.Given as goal

@@ -1,4 +1,4 @@
--- What each turn of the loop in `place_cells` keeps.
+-- What each iteration of the loop in `place_cells` keeps.
 use Rattle.std.proofs.Common.{◌≡◌, ℕ, ◌<◌, length}
 use Rattle.coding.specs.Product.{line, place}
 use Rattle.dvd_block.proofs.parity.place_cells.Given as goal

@@ -1,4 +1,4 @@
--- What each turn of the loop in `put_cell` keeps.
+-- What each iteration of the loop in `put_cell` keeps.
 use Rattle.std.proofs.Common.{◌≡◌, ℕ, ◌<◌, length, get_or}
 use Rattle.coding.specs.Product.{place}
 use Rattle.dvd_block.proofs.parity.put_cell.Given as goal

@@ -1,4 +1,4 @@
--- What each turn of the loop in `read_cells` keeps.
+-- What each iteration of the loop in `read_cells` keeps.
 use Rattle.std.proofs.Common.{◌≡◌, ℕ, ◌<◌, length, get_or}
 use Rattle.coding.specs.Product.{place}
 use Rattle.dvd_block.proofs.parity.read_cells.Given as goal

@@ -1,4 +1,4 @@
--- What each turn of the loop in `rows_parity` keeps.
+-- What each iteration of the loop in `rows_parity` keeps.
 use Rattle.std.proofs.Common.{◌≡◌, ℕ, ◌*◌, ◌<◌, ◌≤◌, length, take}
 use Rattle.coding.specs.Words.{IsEncoded}
 use Rattle.coding.specs.Product.{line}

@@ -1,4 +1,4 @@
--- What each turn of the loop in `put_records` keeps.
+-- What each iteration of the loop in `put_records` keeps.
 use Rattle.dvd_capture.specs.Parts.{marks_rows, received_rows}
 use Rattle.dvd_capture.specs.Inner.Putting.{ArePut}
 use Rattle.dvd_capture.proofs.capture.put_records.Given as goal

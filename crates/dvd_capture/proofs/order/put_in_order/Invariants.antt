@@ -1,4 +1,4 @@
--- What each turn of the loop in `put_in_order` keeps.
+-- What each iteration of the loop in `put_in_order` keeps.
 use Rattle.std.proofs.Common.{◌≡◌, ℕ, ◌+◌, ◌*◌, ◌<◌, ◌≤◌, length}
 use Rattle.coding.specs.Recording.{record_at}
 use Rattle.dvd_capture.specs.Parts.{row_in}

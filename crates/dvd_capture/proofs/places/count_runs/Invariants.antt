@@ -1,4 +1,4 @@
--- What each turn of the loop in `count_runs` keeps.
+-- What each iteration of the loop in `count_runs` keeps.
 use Rattle.std.proofs.Common.{◌≡◌, ◌-◌, ◌<◌, ◌≤◌, false}
 use Rattle.dvd_capture.specs.Listed.{mark_of}
 use Rattle.dvd_capture.specs.Inner.Listing.{starts_below}

@@ -1,4 +1,4 @@
--- What each turn of the loop in `mark_places` keeps.
+-- What each iteration of the loop in `mark_places` keeps.
 use Rattle.std.proofs.Common.{◌≡◌, ℕ, ◌<◌, ◌&&◌, ◌||◌, nat_le, nat_lt}
 use Rattle.dvd_capture.specs.Listed.{mark_of}
 use Rattle.dvd_capture.specs.Parts.{marks_rows}

@@ -1,4 +1,4 @@
--- What each turn of the loop in `next_place` keeps.
+-- What each iteration of the loop in `next_place` keeps.
 use Rattle.std.proofs.Common.{◌≤◌, ◌+◌, ◌*◌, not}
 use Rattle.dvd_capture.specs.Listed.{mark_of}
 use Rattle.dvd_capture.specs.Inner.Listing.{AreMarked}

@@ -1,4 +1,4 @@
--- What each turn of the loop in `count_marks` keeps.
+-- What each iteration of the loop in `count_marks` keeps.
 use Rattle.std.proofs.Common.{◌≡◌, ◌*◌, ◌≤◌, take}
 use Rattle.coding.specs.Filling.{marked}
 use Rattle.dvd_capture.specs.MarkBits.{marks_of}

@@ -1,4 +1,4 @@
--- What each turn of the loop in `next_mark` keeps.
+-- What each iteration of the loop in `next_mark` keeps.
 use Rattle.std.proofs.Common.{◌≡◌, ◌≤◌, ◌-◌, if◌then◌else◌}
 use Rattle.dvd_capture.proofs.MarkLists.{ArePassed}
 use Rattle.dvd_capture.proofs.row_marks.next_mark.Given as goal

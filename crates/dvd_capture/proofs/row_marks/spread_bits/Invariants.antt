@@ -1,4 +1,4 @@
--- What each turn of the loop in `spread_bits` keeps.
+-- What each iteration of the loop in `spread_bits` keeps.
 use Rattle.std.proofs.Common.{◌≡◌, ℕ, ◌*◌, ◌<◌, length, get_or}
 use Rattle.dvd_capture.specs.MarkBits.{mark_at}
 use Rattle.dvd_capture.specs.MarkBits.{is_set}

@@ -1,4 +1,4 @@
--- What each turn of the loop in `list_runs` keeps.
+-- What each iteration of the loop in `list_runs` keeps.
 use Rattle.std.proofs.Common.{◌≡◌, ◌+◌, ◌*◌, ◌≤◌, ℕ, List, length}
 use Rattle.arrayvec.specs.ArrayVec.{array_vec_len}
 use Rattle.dvd_capture.specs.Listed.{mark_of}

@@ -1,4 +1,4 @@
--- What each turn of the loop in `take_runs` keeps.
+-- What each iteration of the loop in `take_runs` keeps.
 use Rattle.std.proofs.Common.{◌≡◌, ◌*◌, ◌≤◌, ◌++◌, ℕ, List, length, take}
 use Rattle.dvd_capture.specs.Listed.{mark_of}
 use Rattle.dvd_capture.specs.Inner.Listing.{HasRuns}

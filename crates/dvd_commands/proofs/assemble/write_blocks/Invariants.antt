@@ -1,4 +1,4 @@
--- What each turn of the loop in `write_blocks` keeps.
+-- What each iteration of the loop in `write_blocks` keeps.
 use Rattle.std.proofs.Common.{take}
 use Rattle.std.specs.Io.KnownBytes.{Appends}
 use Rattle.dvd_ports.specs.Causes.{HasGoneOn}

@@ -1,4 +1,4 @@
--- What each turn of the loop in `write_each` keeps.
+-- What each iteration of the loop in `write_each` keeps.
 use Rattle.std.proofs.Common.{◌≡◌, ℕ, List, ◌++◌}
 use Rattle.std.specs.Io.KnownBytes.{Appends}
 use Rattle.std.specs.Slice.Iter.{chunks_rest, chunks_size}

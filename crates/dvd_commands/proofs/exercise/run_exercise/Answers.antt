@@ -8,4 +8,4 @@ pub returns-clause-performed : goal.returns-clause-performed
 returns-clause-performed g c = λ report.
     let settings = c.args.start.now.settings.now in
     gone_over Exercise settings c.requires.command refl tt tt
-    _ _ c.follow_trials.result (c.follow_trials.ensures.follows report)
+    _ _ c.run_trials.result (c.run_trials.ensures.follows report)

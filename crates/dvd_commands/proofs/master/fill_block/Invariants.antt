@@ -1,4 +1,4 @@
--- What each turn of the loop in `fill_block` keeps.
+-- What each iteration of the loop in `fill_block` keeps.
 use Rattle.std.proofs.Common.{ℕ, ◌<◌}
 use Rattle.dvd_block.specs.Buffers.{block_rows}
 use Rattle.coding.specs.Product.{HoldsFrame}

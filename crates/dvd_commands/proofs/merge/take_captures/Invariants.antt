@@ -1,4 +1,4 @@
--- What each turn of the loop in `take_captures` keeps.
+-- What each iteration of the loop in `take_captures` keeps.
 use Rattle.dvd_ports.specs.Causes.{HasGoneOn}
 use Rattle.dvd_merge.specs.Merges.{table_of}
 use Rattle.dvd_commands.specs.Inner.Performing.{AreTaken}

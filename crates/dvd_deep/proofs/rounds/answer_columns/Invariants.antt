@@ -1,4 +1,4 @@
--- What each turn of the loop in `answer_columns` keeps.
+-- What each iteration of the loop in `answer_columns` keeps.
 use Rattle.std.proofs.Common.{◌≡◌, is_some, length}
 use Rattle.std.specs.List.{list_all, range_with_len}
 use Rattle.dvd_deep.specs.Inner.Buffers.{buffered_state}

@@ -1,4 +1,4 @@
--- What each turn of the loop in `answer_rows` keeps.
+-- What each iteration of the loop in `answer_rows` keeps.
 use Rattle.std.proofs.Common.{◌≡◌, length}
 use Rattle.dvd_deep.specs.Inner.Buffers.{buffered_state, marks_of_rows}
 use Rattle.dvd_deep.proofs.RowStep.{IsStepped}

@@ -1,4 +1,4 @@
--- What each turn of the loop in `marked_rows` keeps.
+-- What each iteration of the loop in `marked_rows` keeps.
 use Rattle.std.proofs.Common.{◌≡◌, ℕ, ◌<◌, false, length, get_or, replicate}
 use Rattle.dvd_capture.specs.Answers.{marks_line}
 use Rattle.dvd_deep.specs.Inner.Buffers.{marks_of_rows}

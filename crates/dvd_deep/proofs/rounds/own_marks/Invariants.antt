@@ -1,4 +1,4 @@
--- What each turn of the loop in `own_marks` keeps.
+-- What each iteration of the loop in `own_marks` keeps.
 use Rattle.std.proofs.Common.{◌≡◌, ℕ, ◌<◌, false, length, get_or}
 use Rattle.dvd_deep.specs.Inner.Buffers.{marks_of_rows}
 use Rattle.dvd_deep.specs.Rounds.{mark_in}

@@ -1,4 +1,4 @@
--- What each turn of the loop in `play_rounds` keeps.
+-- What each iteration of the loop in `play_rounds` keeps.
 use Rattle.std.proofs.Common.{◌≡◌, ◌-◌}
 use Rattle.dvd_deep.specs.Inner.Buffers.{buffered_state}
 use Rattle.dvd_deep.specs.Rounds.{after_rounds}

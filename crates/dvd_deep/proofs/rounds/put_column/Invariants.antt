@@ -1,4 +1,4 @@
--- What each turn of the loop in `put_column` keeps.
+-- What each iteration of the loop in `put_column` keeps.
 use Rattle.dvd_deep.proofs.ColumnPut.{IsPutBefore}
 use Rattle.dvd_deep.proofs.rounds.put_column.Given as goal
 

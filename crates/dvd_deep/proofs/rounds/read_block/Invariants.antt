@@ -1,4 +1,4 @@
--- What each turn of the loop in `read_block` keeps.
+-- What each iteration of the loop in `read_block` keeps.
 use Rattle.std.proofs.Common.{◌≡◌, ℕ, ◌<◌, length}
 use Rattle.coding.specs.Product.{line}
 use Rattle.dvd_capture.specs.Answers.{marks_line}

@@ -1,4 +1,4 @@
--- What each turn of the loop in `read_column` keeps.
+-- What each iteration of the loop in `read_column` keeps.
 use Rattle.std.proofs.Common.{◌≡◌, ℕ, ◌<◌, length, get_or}
 use Rattle.coding.specs.Product.{place}
 use Rattle.dvd_deep.proofs.rounds.read_column.Given as goal

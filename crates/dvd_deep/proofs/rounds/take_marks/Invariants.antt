@@ -1,4 +1,4 @@
--- What each turn of the loop in `take_marks` keeps.
+-- What each iteration of the loop in `take_marks` keeps.
 use Rattle.dvd_deep.specs.Inner.Buffers.{marks_of_rows}
 use Rattle.dvd_deep.proofs.MarksTaken.{AreTakenTo}
 use Rattle.dvd_deep.proofs.rounds.take_marks.Given as goal

@@ -1,4 +1,4 @@
--- What each turn of the loop in `take_row_marks` keeps.
+-- What each iteration of the loop in `take_row_marks` keeps.
 use Rattle.std.proofs.Common.{◌≡◌, ℕ, ◌<◌, ◌≤◌, false, get_or}
 use Rattle.dvd_capture.specs.Parts.{marks_of_row}
 use Rattle.dvd_deep.specs.Inner.Steps.{mark_left}

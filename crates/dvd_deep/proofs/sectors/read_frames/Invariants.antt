@@ -1,4 +1,4 @@
--- What each turn of the loop in `read_frames` keeps.
+-- What each iteration of the loop in `read_frames` keeps.
 use Rattle.std.proofs.Common.{◌≡◌, ◌*◌, length, take}
 use Rattle.dvd_read.proofs.FrameFaults.{NoFaultBefore}
 use Rattle.dvd_deep.proofs.Mains.{mains}

@@ -1,4 +1,4 @@
--- What each turn of the loop in `combine_row` keeps.
+-- What each iteration of the loop in `combine_row` keeps.
 use Rattle.std.proofs.Common.{◌≡◌, ◌<◌, length, bit_xor}
 use Rattle.coding.specs.Product.{line, place}
 use Rattle.dvd_capture.specs.Works.{rows_of}

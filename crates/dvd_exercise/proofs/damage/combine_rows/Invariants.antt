@@ -1,4 +1,4 @@
--- What each turn of the loop in `combine_rows` keeps.
+-- What each iteration of the loop in `combine_rows` keeps.
 use Rattle.std.proofs.Common.{◌≡◌, ◌*◌, []}
 use Rattle.coding.specs.Product.{line}
 use Rattle.dvd_capture.specs.Works.{rows_of}

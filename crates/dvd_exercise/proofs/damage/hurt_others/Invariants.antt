@@ -1,4 +1,4 @@
--- What each turn of the loop in `hurt_others` keeps.
+-- What each iteration of the loop in `hurt_others` keeps.
 use Rattle.std.proofs.Common.{◌≡◌, ◌+◌}
 use Rattle.dvd_capture.specs.Works.{rows_of}
 use Rattle.dvd_exercise.specs.Damage.{row_state}

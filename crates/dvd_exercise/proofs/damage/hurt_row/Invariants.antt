@@ -1,4 +1,4 @@
--- What each turn of the loop in `hurt_row` keeps.
+-- What each iteration of the loop in `hurt_row` keeps.
 use Rattle.std.proofs.Common.{◌≡◌, ◌+◌, bit_xor}
 use Rattle.coding.specs.Product.{place}
 use Rattle.dvd_capture.specs.Works.{rows_of}

@@ -1,4 +1,4 @@
--- What each turn of the loop in `lose_row` keeps.
+-- What each iteration of the loop in `lose_row` keeps.
 use Rattle.std.proofs.Common.{◌≡◌, ◌<◌, true, false, length}
 use Rattle.coding.specs.Product.{line}
 use Rattle.dvd_capture.specs.Works.{marks_of_work, rows_of}

@@ -1,4 +1,4 @@
--- What each turn of the loop in `lose_rows` keeps.
+-- What each iteration of the loop in `lose_rows` keeps.
 use Rattle.std.proofs.Common.{◌+◌, true, [], replicate}
 use Rattle.dvd_capture.specs.Works.{marks_of_work, rows_of}
 use Rattle.dvd_exercise.specs.Damage.{IsChanged, damaged_row}

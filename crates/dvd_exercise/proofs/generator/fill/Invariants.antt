@@ -1,4 +1,4 @@
--- What each turn of the loop in `fill` keeps.
+-- What each iteration of the loop in `fill` keeps.
 use Rattle.std.proofs.Common.{◌≡◌, ℕ, ◌<◌, get_or}
 use Rattle.dvd_exercise.specs.Generator.{drawn_byte, state_after, state_of}
 use Rattle.dvd_exercise.proofs.generator.fill.Given as goal

@@ -1,4 +1,4 @@
--- What each turn of the loop in `with_bytes` keeps.
+-- What each iteration of the loop in `with_bytes` keeps.
 use Rattle.std.proofs.Common.{◌≡◌, List, ℕ, ◌++◌, drop}
 use Rattle.dvd_frame.specs.Inner.Registers.{divided_from}
 use Rattle.dvd_frame.proofs.checks.with_bytes.Given as goal

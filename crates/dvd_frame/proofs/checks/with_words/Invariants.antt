@@ -1,4 +1,4 @@
--- What each turn of the loop in `with_words` keeps.
+-- What each iteration of the loop in `with_words` keeps.
 use Rattle.std.proofs.Common.{◌≡◌, List, ℕ, ◌++◌, drop}
 use Rattle.std.specs.List.{concat}
 use Rattle.dvd_frame.specs.Inner.Registers.{divided_from}

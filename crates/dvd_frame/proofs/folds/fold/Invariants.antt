@@ -1,4 +1,4 @@
--- What each turn of the loop in `fold` keeps.
+-- What each iteration of the loop in `fold` keeps.
 use Rattle.std.proofs.Common.{◌≡◌, ℕ, ◌+◌, ◌*◌, ◌^◌, drop}
 use Rattle.coding.specs.BitDivision.{plus_prefix}
 use Rattle.dvd_frame.specs.Inner.Registers.{divided_from}

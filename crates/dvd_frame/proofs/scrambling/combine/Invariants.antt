@@ -1,4 +1,4 @@
--- What each turn of the loop in `combine` keeps.
+-- What each iteration of the loop in `combine` keeps.
 use Rattle.std.proofs.Common.{◌≡◌, ℕ, ◌<◌, ◌≤◌, get_or}
 use Rattle.std.specs.Prelude.{bit_xor}
 use Rattle.dvd_frame.proofs.scrambling.combine.Given as goal

@@ -1,4 +1,4 @@
--- What each turn of the loop in `combine_into` keeps.
+-- What each iteration of the loop in `combine_into` keeps.
 use Rattle.std.proofs.Common.{◌≡◌, ℕ, ◌<◌, length, get_or}
 use Rattle.std.specs.Prelude.{bit_xor}
 use Rattle.dvd_frame.proofs.scrambling.combine_into.Given as goal

@@ -1,4 +1,4 @@
--- What each turn of the loop in `next_word` keeps.
+-- What each iteration of the loop in `next_word` keeps.
 use Rattle.std.proofs.Common.{◌≡◌, ℕ, ◌+◌, ◌<◌, get_or}
 use Rattle.dvd_frame.specs.Scrambling.{window}
 use Rattle.dvd_frame.specs.Scrambling.{scrambling_byte}

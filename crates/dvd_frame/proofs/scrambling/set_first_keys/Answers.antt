@@ -26,5 +26,5 @@ loop-place-preserved c =
           c.put.ensures c.loop-place.invariant.written (c.to_be_bytes.ensures ∙ c.loop-place.invariant.word)
           ∙ ap (keys_from preset 0) past;
       word = c.loop-place.invariant.next ∙ ap (λ (k : ℕ). keys_from preset k 8) past;
-      next = c.word_behind.ensures preset place c.loop-place.invariant.word c.loop-place.invariant.next ∙ ap (λ (k : ℕ). keys_from preset k 8) further;
+      next = c.word_after.ensures preset place c.loop-place.invariant.word c.loop-place.invariant.next ∙ ap (λ (k : ℕ). keys_from preset k 8) further;
     }

@@ -1,4 +1,4 @@
--- What each turn of the loop in `set_first_keys` keeps.
+-- What each iteration of the loop in `set_first_keys` keeps.
 use Rattle.std.proofs.Common.{◌≡◌, ◌+◌, ◌*◌, take}
 use Rattle.std.specs.Int.{to_be_bytes, w64}
 use Rattle.dvd_frame.specs.Inner.Registers.{keys_from}

@@ -1,4 +1,4 @@
--- What each turn of the loop in `set_keys` keeps.
+-- What each iteration of the loop in `set_keys` keeps.
 use Rattle.std.proofs.Common.{◌≡◌, ◌*◌, length, take}
 use Rattle.dvd_frame.specs.Inner.Registers.{keys_from}
 use Rattle.dvd_frame.proofs.scrambling.set_keys.Given as goal

@@ -1,4 +1,4 @@
--- What each turn of the loop in `block_at` keeps.
+-- What each iteration of the loop in `block_at` keeps.
 use Rattle.std.proofs.Common.{◌≡◌, ◌+◌}
 use Rattle.dvd_layout.proofs.Blocks.{blocks_before}
 use Rattle.dvd_layout.proofs.zone.block_at.Given as goal

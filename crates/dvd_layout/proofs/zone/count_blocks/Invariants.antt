@@ -1,4 +1,4 @@
--- What each turn of the loop in `count_blocks` keeps.
+-- What each iteration of the loop in `count_blocks` keeps.
 use Rattle.std.proofs.Common.{◌≡◌, ◌*◌, ◌≤◌, ◌^◌}
 use Rattle.dvd_layout.proofs.Blocks.{blocks_before}
 use Rattle.dvd_layout.proofs.zone.count_blocks.Given as goal

@@ -1,4 +1,4 @@
--- What each turn of the loop in `run_units` keeps.
+-- What each iteration of the loop in `run_units` keeps.
 use Rattle.std.proofs.Common.{◌≡◌, ◌≤◌, ℕ, List}
 use Rattle.dvd_loop.specs.Streams.{streams, HaveGoneOn}
 use Rattle.dvd_loop.proofs.Reached.{Reached}

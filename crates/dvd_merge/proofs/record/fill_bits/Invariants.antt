@@ -1,4 +1,4 @@
--- What each turn of the loop in `fill_bits` keeps.
+-- What each iteration of the loop in `fill_bits` keeps.
 use Rattle.std.proofs.Common.{◌≡◌, ℕ, ◌<◌, length, map, get_or}
 use Rattle.dvd_merge.specs.MarkedText.{mark_byte}
 use Rattle.dvd_merge.specs.Inner.Rows.{is_unknown}

@@ -1,4 +1,4 @@
--- What each turn of the loop in `fill_bytes` keeps.
+-- What each iteration of the loop in `fill_bytes` keeps.
 use Rattle.std.proofs.Common.{◌≡◌, ℕ, ◌*◌, ◌<◌, length, get_or}
 use Rattle.dvd_merge.specs.Join.{byte_of}
 use Rattle.dvd_merge.specs.Inner.Rows.{at_place}

@@ -1,4 +1,4 @@
--- What each turn of the loop in `fill_text` keeps.
+-- What each iteration of the loop in `fill_text` keeps.
 use Rattle.std.proofs.Common.{◌≡◌, ◌*◌, length, map, take}
 use Rattle.dvd_merge.specs.MarkedText.{marked_row}
 use Rattle.dvd_merge.specs.Planes.{table_of_planes}

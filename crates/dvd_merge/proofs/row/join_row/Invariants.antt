@@ -1,4 +1,4 @@
--- What each turn of the loop in `join_row` keeps.
+-- What each iteration of the loop in `join_row` keeps.
 use Rattle.std.proofs.Common.{◌*◌}
 use Rattle.dvd_merge.proofs.Rows.{AreJoinedBelow}
 use Rattle.dvd_merge.proofs.row.join_row.Given as goal

@@ -1,4 +1,4 @@
--- What each turn of the loop in `receive_all` keeps.
+-- What each iteration of the loop in `receive_all` keeps.
 use Rattle.std.proofs.Common.{◌≡◌}
 use Rattle.dvd_capture.specs.Works.{stage_of}
 use Rattle.dvd_capture.specs.declared.stage.Stage.TheVariants.{Fetched}

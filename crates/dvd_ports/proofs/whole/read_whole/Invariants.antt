@@ -1,4 +1,4 @@
--- What each turn of the loop in `read_whole` keeps, and why it ends.
+-- What each iteration of the loop in `read_whole` keeps, and why it ends.
 use Rattle.std.proofs.Common.{length, ◌-◌}
 use Rattle.std.specs.Io.KnownBytes.{Consumes}
 use Rattle.dvd_ports.proofs.Moving.{HasMoved}

@@ -1,4 +1,4 @@
--- What each turn of the loop in `write_whole` keeps, and why it ends.
+-- What each iteration of the loop in `write_whole` keeps, and why it ends.
 use Rattle.std.proofs.Common.{length, ◌-◌}
 use Rattle.std.specs.Io.KnownBytes.{Appends}
 use Rattle.dvd_ports.proofs.Moving.{HasMoved}

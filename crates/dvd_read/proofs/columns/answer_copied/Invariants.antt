@@ -1,4 +1,4 @@
--- What each turn of the loop in `answer_copied` keeps.
+-- What each iteration of the loop in `answer_copied` keeps.
 use Rattle.std.proofs.Common.{◌≡◌, ℕ, ◌+◌, ◌*◌, ◌<◌, ◌≤◌, true, length, map, get_or}
 use Rattle.coding.specs.Filling.{AgreeUnmarked}
 use Rattle.coding.specs.Product.{column}

@@ -1,4 +1,4 @@
--- What each turn of the loop in `answer_group` keeps.
+-- What each iteration of the loop in `answer_group` keeps.
 use Rattle.std.proofs.Common.{◌≡◌, ℕ, ◌<◌, ◌≤◌, true, get_or}
 use Rattle.coding.specs.Filling.{AgreeUnmarked}
 use Rattle.coding.specs.Nearest.{near_of}

@@ -1,4 +1,4 @@
--- What each turn of the loop in `copy_few` keeps.
+-- What each iteration of the loop in `copy_few` keeps.
 use Rattle.std.proofs.Common.{◌≡◌, ◌*◌, length}
 use Rattle.dvd_read.specs.Inner.Standing.{AreCopied}
 use Rattle.dvd_read.proofs.columns.copy_few.Given as goal

@@ -1,4 +1,4 @@
--- What each turn of the loop in `copy_rows` keeps.
+-- What each iteration of the loop in `copy_rows` keeps.
 use Rattle.std.proofs.Common.{◌≡◌, ℕ, ◌+◌, ◌-◌, ◌<◌, ◌≤◌, length, get_or}
 use Rattle.coding.specs.Product.{place}
 use Rattle.dvd_capture.specs.declared.parts.ColumnAnswer.{ColumnAnswer}

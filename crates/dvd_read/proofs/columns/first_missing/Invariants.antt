@@ -1,4 +1,4 @@
--- What each turn of the loop in `first_missing` keeps.
+-- What each iteration of the loop in `first_missing` keeps.
 use Rattle.std.proofs.Common.{◌≡◌, ℕ, ◌<◌, get_or, true}
 use Rattle.dvd_capture.specs.declared.parts.ColumnAnswer.{ColumnAnswer}
 use Rattle.dvd_read.proofs.columns.first_missing.Given as goal

@@ -1,4 +1,4 @@
--- What each turn of the loop in `first_wrong` keeps.
+-- What each iteration of the loop in `first_wrong` keeps.
 use Rattle.std.proofs.Common.{◌≡◌, ℕ, ◌*◌, ◌<◌, true}
 use Rattle.coding.specs.Nearest.{vanishes_at_all}
 use Rattle.coding.specs.Product.{line}

@@ -1,4 +1,4 @@
--- What each turn of the loop in `first_wrong_from` keeps.
+-- What each iteration of the loop in `first_wrong_from` keeps.
 use Rattle.dvd_read.specs.Inner.Found.{AreRightFrom}
 use Rattle.dvd_read.proofs.columns.first_wrong_from.Given as goal
 

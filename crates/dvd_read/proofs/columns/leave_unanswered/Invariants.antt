@@ -1,4 +1,4 @@
--- What each turn of the loop in `leave_unanswered` keeps.
+-- What each iteration of the loop in `leave_unanswered` keeps.
 use Rattle.std.proofs.Common.{◌≡◌, ℕ, ◌<◌, false, get_or}
 use Rattle.dvd_capture.specs.declared.parts.ColumnAnswer.{ColumnAnswer}
 use Rattle.dvd_read.proofs.columns.leave_unanswered.Given as goal

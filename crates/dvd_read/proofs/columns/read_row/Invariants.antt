@@ -1,4 +1,4 @@
--- What each turn of the loop in `read_row` keeps.
+-- What each iteration of the loop in `read_row` keeps.
 use Rattle.std.proofs.Common.{◌≡◌, length}
 use Rattle.dvd_read.proofs.ColumnAnswers.{IsRowBefore}
 use Rattle.dvd_read.proofs.columns.read_row.Given as goal

@@ -1,4 +1,4 @@
--- What each turn of the loop in `copy_frame` keeps.
+-- What each iteration of the loop in `copy_frame` keeps.
 use Rattle.std.proofs.Common.{◌≡◌, ◌*◌, length, take}
 use Rattle.coding.specs.TwoPass.{from_columns}
 use Rattle.dvd_read.specs.Inner.Found.{words_of_columns}

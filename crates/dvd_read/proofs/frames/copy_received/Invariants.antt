@@ -1,4 +1,4 @@
--- What each turn of the loop in `copy_received` keeps.
+-- What each iteration of the loop in `copy_received` keeps.
 use Rattle.std.proofs.Common.{◌≡◌, ℕ, ◌+◌, ◌*◌, ◌<◌, length, take}
 use Rattle.coding.specs.Product.{line}
 use Rattle.dvd_read.proofs.FrameFaults.{prefixes}

@@ -1,4 +1,4 @@
--- What each turn of the loop in `read_frames` keeps.
+-- What each iteration of the loop in `read_frames` keeps.
 use Rattle.dvd_capture.specs.Parts.{sector_bytes}
 use Rattle.coding.specs.TwoPass.{from_columns}
 use Rattle.dvd_read.specs.Inner.Found.{words_of_columns}

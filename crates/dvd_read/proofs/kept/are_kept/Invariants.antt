@@ -1,4 +1,4 @@
--- What each turn of the loop in `are_kept` keeps.
+-- What each iteration of the loop in `are_kept` keeps.
 use Rattle.std.proofs.Common.{◌≡◌, ℕ, ◌*◌, ◌<◌, false, get_or}
 use Rattle.dvd_read.specs.Inner.Standing.{IsRowKept}
 use Rattle.dvd_read.proofs.kept.are_kept.Given as goal

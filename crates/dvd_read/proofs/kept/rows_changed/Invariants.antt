@@ -1,4 +1,4 @@
--- What each turn of the loop in `rows_changed` keeps.
+-- What each iteration of the loop in `rows_changed` keeps.
 use Rattle.std.proofs.Common.{◌≡◌, ◌↔◌, ℕ, ◌+◌, ◌*◌, ◌<◌, length, min}
 use Rattle.coding.specs.Product.{place}
 use Rattle.dvd_read.specs.Inner.Standing.{IsRowKept}

@@ -1,4 +1,4 @@
--- What each turn of the loop in `lane_of` keeps.
+-- What each iteration of the loop in `lane_of` keeps.
 use Rattle.std.proofs.Common.{◌≡◌, take}
 use Rattle.coding.specs.Product.{column}
 use Rattle.dvd_read.proofs.lanes.lane_of.Given as goal

@@ -1,4 +1,4 @@
--- What each turn of the loop in `count_corrections` keeps.
+-- What each iteration of the loop in `count_corrections` keeps.
 use Rattle.std.proofs.Common.{◌≡◌, ◌≤◌, ◌*◌, take}
 use Rattle.dvd_capture.specs.Works.{block_of, rows_of}
 use Rattle.coding.specs.Found.{block_differences}

@@ -1,4 +1,4 @@
--- What each turn of the loop in `count_differences` keeps.
+-- What each iteration of the loop in `count_differences` keeps.
 use Rattle.std.proofs.Common.{◌≡◌, ◌≤◌, ◌*◌, take}
 use Rattle.dvd_capture.specs.Parts.{received_rows}
 use Rattle.coding.specs.TwoPass.{from_columns}

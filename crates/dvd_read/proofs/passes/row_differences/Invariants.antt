@@ -1,4 +1,4 @@
--- What each turn of the loop in `row_differences` keeps.
+-- What each iteration of the loop in `row_differences` keeps.
 use Rattle.std.proofs.Common.{◌≡◌, ◌≤◌, take}
 use Rattle.coding.specs.Distance.{distance}
 use Rattle.dvd_read.proofs.passes.row_differences.Given as goal

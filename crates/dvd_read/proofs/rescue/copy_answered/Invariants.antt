@@ -1,4 +1,4 @@
--- What each turn of the loop in `copy_answered` keeps.
+-- What each iteration of the loop in `copy_answered` keeps.
 use Rattle.std.proofs.Common.{◌≡◌, ◌*◌, false, length, map, take}
 use Rattle.dvd_read.specs.Parts.{answer_word}
 use Rattle.dvd_read.specs.Inner.Saved.{answered_block}

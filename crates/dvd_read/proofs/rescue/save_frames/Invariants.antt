@@ -1,4 +1,4 @@
--- What each turn of the loop in `save_frames` keeps.
+-- What each iteration of the loop in `save_frames` keeps.
 use Rattle.std.proofs.Common.{◌≡◌, ◌≤◌, map}
 use Rattle.dvd_capture.specs.Parts.{sector_bytes}
 use Rattle.dvd_read.specs.Parts.{answer_word}

@@ -1,4 +1,4 @@
--- What each turn of the loop in `answer_group` keeps.
+-- What each iteration of the loop in `answer_group` keeps.
 use Rattle.dvd_capture.specs.Parts.{marks_rows, received_rows}
 use Rattle.dvd_read.proofs.RowAnswers.{AreAnswersBefore}
 use Rattle.dvd_read.proofs.rows.answer_group.Given as goal

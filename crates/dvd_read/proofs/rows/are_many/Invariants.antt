@@ -1,4 +1,4 @@
--- What each turn of the loop in `are_many` keeps.
+-- What each iteration of the loop in `are_many` keeps.
 use Rattle.std.proofs.Common.{◌+◌, ◌≤◌}
 use Rattle.dvd_read.proofs.rows.are_many.Given as goal
 

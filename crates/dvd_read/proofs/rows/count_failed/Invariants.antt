@@ -1,4 +1,4 @@
--- What each turn of the loop in `count_failed` keeps.
+-- What each iteration of the loop in `count_failed` keeps.
 use Rattle.std.proofs.Common.{◌≡◌, ◌≤◌, take}
 use Rattle.coding.specs.Filling.{marked}
 use Rattle.dvd_read.proofs.rows.count_failed.Given as goal

@@ -1,4 +1,4 @@
--- What each turn of the loop in `mark_failed` keeps.
+-- What each iteration of the loop in `mark_failed` keeps.
 use Rattle.std.proofs.Common.{◌≡◌, length}
 use Rattle.dvd_read.proofs.RowAnswers.{AreFlagsBefore}
 use Rattle.dvd_read.proofs.rows.mark_failed.Given as goal

@@ -1,7 +1,7 @@
 -- The proof of `copy_square` in src/squares.rt.
 use Rattle.std.proofs.Common.{◌≡◌, ℕ, ◌+◌, [], get_or, ◌∙◌, arith}
 use Rattle.dvd_read.specs.Parts.{answer_bytes}
-use Rattle.dvd_read.proofs.LanesInTurns.{sixteen_more}
+use Rattle.dvd_read.proofs.AlternatingLanes.{sixteen_more}
 use Rattle.dvd_read.proofs.squares.copy_square.Goals as goal
 
 pub returns-clause-copied : goal.returns-clause-copied

@@ -1,4 +1,4 @@
--- What each turn of the loop in `copy_squares` keeps.
+-- What each iteration of the loop in `copy_squares` keeps.
 use Rattle.std.proofs.Common.{◌≡◌, ℕ, ◌*◌, ◌<◌, length, get_or}
 use Rattle.dvd_capture.specs.declared.parts.ColumnAnswer.{ColumnAnswer}
 use Rattle.dvd_read.specs.Inner.Standing.{AreCopied}

@@ -1,6 +1,6 @@
 -- The proof of `last_lanes` in src/squares.rt.
 use Rattle.std.proofs.Common.{◌+◌, ◌/◌, arith}
-use Rattle.dvd_read.proofs.LanesInTurns.{in_turns-even, in_turns-odd}
+use Rattle.dvd_read.proofs.AlternatingLanes.{in_turns-even, in_turns-odd}
 use Rattle.dvd_read.proofs.squares.last_lanes.Goals as goal
 
 pub returns-clause-even : goal.returns-clause-even

@@ -1,4 +1,4 @@
--- What each turn of the loop in `load_rows` keeps.
+-- What each iteration of the loop in `load_rows` keeps.
 use Rattle.std.proofs.Common.{◌≡◌, ℕ, ◌+◌, ◌<◌, length}
 use Rattle.coding.specs.Product.{line, place}
 use Rattle.dvd_read.specs.Parts.{answer_bytes}

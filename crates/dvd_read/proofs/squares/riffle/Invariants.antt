@@ -1,4 +1,4 @@
--- What each turn of the loop in `riffle` keeps.
+-- What each iteration of the loop in `riffle` keeps.
 use Rattle.std.proofs.Common.{◌≡◌, ℕ, ◌+◌, ◌*◌, ◌/◌, ◌%◌, ◌<◌, length}
 use Rattle.coding.specs.Product.{line, place}
 use Rattle.dvd_read.proofs.squares.riffle.Given as goal

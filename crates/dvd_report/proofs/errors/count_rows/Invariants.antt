@@ -1,4 +1,4 @@
--- What each turn of the loop in `count_rows` keeps.
+-- What each iteration of the loop in `count_rows` keeps.
 use Rattle.std.proofs.Common.{◌≡◌, ◌≤◌, count_by, take}
 use Rattle.std.specs.List.{range_with_len}
 use Rattle.coding.specs.Filling.{marked}

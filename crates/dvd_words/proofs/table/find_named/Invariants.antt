@@ -1,4 +1,4 @@
--- What each turn of the loop in `find_named` keeps.
+-- What each iteration of the loop in `find_named` keeps.
 use Rattle.std.proofs.Common.{◌≡◌, drop}
 use Rattle.dvd_words.specs.Inner.Rows.{named_in}
 use Rattle.dvd_words.proofs.table.find_named.Given as goal

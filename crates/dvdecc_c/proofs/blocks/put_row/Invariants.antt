@@ -1,4 +1,4 @@
--- What each turn of the loop in `put_row` keeps.
+-- What each iteration of the loop in `put_row` keeps.
 use Rattle.std.proofs.Common.{◌≡◌, ℕ, ◌<◌, length, get_or}
 use Rattle.coding.specs.Product.{place}
 use Rattle.dvd_capture.specs.Works.{block_of}

@@ -1,4 +1,4 @@
--- What each turn of the loop in `decode_each` keeps.
+-- What each iteration of the loop in `decode_each` keeps.
 use Rattle.std.proofs.Common.{◌≡◌, ℕ, ◌<◌, ◌≤◌, get_or}
 use Rattle.coding.specs.Product.{line}
 use Rattle.dvdecc_c.specs.Lists.{answer_to, row_decoded}

@@ -1,4 +1,4 @@
--- What each turn of the loop in `dvdecc_rows_parity` keeps.
+-- What each iteration of the loop in `dvdecc_rows_parity` keeps.
 use Rattle.std.proofs.Common.{◌≡◌, ℕ, ◌<◌, ◌≤◌, take}
 use Rattle.coding.specs.Product.{line}
 use Rattle.coding.specs.Words.{IsEncoded}

@@ -1,4 +1,4 @@
--- What each turn of the loop in `put_sectors` keeps.
+-- What each iteration of the loop in `put_sectors` keeps.
 use Rattle.std.proofs.Common.{◌≡◌, ℕ, ◌<◌, length}
 use Rattle.coding.specs.Product.{line}
 use Rattle.dvd_capture.specs.Works.{sectors_of}

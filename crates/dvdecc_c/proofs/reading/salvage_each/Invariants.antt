@@ -1,4 +1,4 @@
--- What each turn of the loop in `salvage_each` keeps.
+-- What each iteration of the loop in `salvage_each` keeps.
 use Rattle.std.proofs.Common.{◌≡◌, ℕ, ◌<◌, length, get_or, replicate, unwrap_or, is_some}
 use mir.Val.{bool_byte}
 use Rattle.coding.specs.Product.{line}

@@ -1,4 +1,4 @@
--- What each turn of the loop in `marks_of` keeps.
+-- What each iteration of the loop in `marks_of` keeps.
 use Rattle.std.proofs.Common.{◌≡◌, ℕ, ◌<◌, length, get_or, false, not, ◌==◌}
 use Rattle.dvdecc_c.proofs.words.marks_of.Given as goal
 

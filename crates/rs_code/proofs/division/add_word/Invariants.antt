@@ -1,4 +1,4 @@
--- What each turn of the loop in `add_word` keeps.
+-- What each iteration of the loop in `add_word` keeps.
 use Rattle.std.proofs.Common.{◌≡◌, ℕ, ◌<◌, ◌≤◌, length, get_or}
 use Rattle.coding.specs.Field.{plus}
 use Rattle.rs_code.proofs.division.add_word.Given as goal

@@ -1,4 +1,4 @@
--- What each turn of the loop in `divide` keeps.
+-- What each iteration of the loop in `divide` keeps.
 use Rattle.std.proofs.Common.{take}
 use Rattle.rs_code.specs.Inner.Polynomials.{IsRemainder}
 use Rattle.rs_code.proofs.division.divide.Given as goal

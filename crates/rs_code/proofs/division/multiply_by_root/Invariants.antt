@@ -1,4 +1,4 @@
--- What each turn of the loop in `multiply_by_root` keeps.
+-- What each iteration of the loop in `multiply_by_root` keeps.
 use Rattle.std.proofs.Common.{◌≡◌, ℕ, ◌<◌, ◌≤◌, ◌∷◌, get_or}
 use Rattle.coding.specs.Field.{plus, product}
 use Rattle.rs_code.proofs.division.multiply_by_root.Given as goal

@@ -1,4 +1,4 @@
--- What each turn of the loop in `product_of_factors` keeps.
+-- What each iteration of the loop in `product_of_factors` keeps.
 use Rattle.std.proofs.Common.{◌≡◌}
 use Rattle.arrayvec.specs.ArrayVec.{array_vec_len}
 use Rattle.coding.specs.Field.{alpha, power}

@@ -1,4 +1,4 @@
--- What each turn of the loop in `read_byte` keeps.
+-- What each iteration of the loop in `read_byte` keeps.
 use Rattle.std.proofs.Common.{◌≡◌, ℕ, ◌+◌, ◌<◌, ◌≤◌, get_or}
 use Rattle.coding.specs.Field.{plus, product}
 use Rattle.rs_code.proofs.division.read_byte.Given as goal

@@ -1,4 +1,4 @@
--- What each turn of the loop in `is_zero` keeps.
+-- What each iteration of the loop in `is_zero` keeps.
 use Rattle.std.proofs.Common.{◌≡◌, ℕ, ◌<◌, get_or}
 use Rattle.rs_code.proofs.evaluation.is_zero.Given as goal
 

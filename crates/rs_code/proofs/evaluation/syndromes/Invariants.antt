@@ -1,4 +1,4 @@
--- What each turn of the loop in `syndromes` keeps.
+-- What each iteration of the loop in `syndromes` keeps.
 use Rattle.std.proofs.Common.{◌≡◌}
 use Rattle.arrayvec.specs.ArrayVec.{array_vec_len}
 use Rattle.rs_code.specs.Syndromes.{syndromes_of}

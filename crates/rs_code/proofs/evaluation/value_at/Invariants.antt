@@ -1,4 +1,4 @@
--- What each turn of the loop in `value_at` keeps.
+-- What each iteration of the loop in `value_at` keeps.
 use Rattle.std.proofs.Common.{◌≡◌, ◌-◌, ◌*◌, ◌≤◌, length, drop}
 use Rattle.coding.specs.Field.{alpha, power}
 use Rattle.coding.specs.Words.{value}

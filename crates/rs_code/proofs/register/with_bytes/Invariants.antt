@@ -1,4 +1,4 @@
--- What each turn of the loop in `with_bytes` keeps.
+-- What each iteration of the loop in `with_bytes` keeps.
 use Rattle.std.proofs.Common.{◌≡◌, List, ℕ, [], ◌++◌, slice_index_or, drop}
 use Rattle.rs_code.specs.Inner.Registers.{after_bytes}
 use Rattle.rs_code.proofs.register.with_bytes.Given as goal

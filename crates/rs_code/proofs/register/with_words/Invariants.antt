@@ -1,4 +1,4 @@
--- What each turn of the loop in `with_words` keeps.
+-- What each iteration of the loop in `with_words` keeps.
 use Rattle.std.proofs.Common.{◌≡◌, List, ℕ, [], ◌++◌, slice_index_or, drop}
 use Rattle.std.specs.List.{concat}
 use Rattle.rs_code.specs.Inner.Registers.{AreTables, after_bytes}

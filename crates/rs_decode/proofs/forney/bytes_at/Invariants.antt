@@ -1,4 +1,4 @@
--- What each turn of the loop in `bytes_at` keeps.
+-- What each iteration of the loop in `bytes_at` keeps.
 use Rattle.std.proofs.Common.{◌≡◌, List, ℕ, ◌<◌, length, get_or, All}
 use Rattle.coding.specs.Words.{IsByte}
 use Rattle.rs_decode.specs.Inner.Sums.{AreSums}

@@ -1,4 +1,4 @@
--- What each turn of the loop in `distance_exponent` keeps.
+-- What each iteration of the loop in `distance_exponent` keeps.
 use Rattle.std.proofs.Common.{◌≡◌, ◌*◌, ◌≤◌, take}
 use Rattle.coding.specs.Field.{alpha, power}
 use Rattle.rs_decode.specs.Inner.Locator.{distances}

@@ -1,4 +1,4 @@
--- What each turn of the loop in `evaluator` keeps.
+-- What each iteration of the loop in `evaluator` keeps.
 use Rattle.std.proofs.Common.{◌≡◌, List, ℕ, length}
 use Rattle.rs_decode.specs.Inner.Sums.{AreSums}
 use Rattle.rs_decode.proofs.Evaluator.{IsEvaluated}

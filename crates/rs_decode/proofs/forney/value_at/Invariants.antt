@@ -1,4 +1,4 @@
--- What each turn of the loop in `value_at` keeps.
+-- What each iteration of the loop in `value_at` keeps.
 use Rattle.std.proofs.Common.{◌≡◌, take}
 use Rattle.coding.specs.Words.{value}
 use Rattle.rs_decode.proofs.forney.value_at.Given as goal

@@ -18,10 +18,10 @@ loop-k-preserved c =
     let columns = c.args.columns.now in
     let given = c.args.sums.now in
     let before = c.loop-k.invariant in
-    let sums = HoldsLanes-zip2 16 plus c.loop-k.bytes c.scaled-bytes.result before.size c.scaled-bytes.ensures.size in
+    let sums = HoldsLanes-zip2 16 plus c.loop-k.bytes c.mul_scalar-bytes.result before.size c.mul_scalar-bytes.ensures.size in
     record {
       size = sums.size;
       each = λ i below.
           sums.each i below
-          ∙ rw (before.each i below, c.scaled-bytes.ensures.each i below) (sym (total-more c.loop-k.k (λ k. product (place columns k i) (get_or given k 0))));
+          ∙ rw (before.each i below, c.mul_scalar-bytes.ensures.each i below) (sym (total-more c.loop-k.k (λ k. product (place columns k i) (get_or given k 0))));
     }

@@ -1,4 +1,4 @@
--- What each turn of the loop in `combined` keeps.
+-- What each iteration of the loop in `combined` keeps.
 use Rattle.std.proofs.Common.{get_or}
 use Rattle.coding.specs.Field.{product}
 use Rattle.coding.specs.Rows.{place}

@@ -1,4 +1,4 @@
--- What each turn of the loop in `inverse_columns` keeps.
+-- What each iteration of the loop in `inverse_columns` keeps.
 use Rattle.std.proofs.Common.{◌≡◌, ℕ, ◌<◌, length, get_or, ◌==◌, if◌then◌else◌}
 use Rattle.rs_decode.specs.Inner.Inverse.{row_sum}
 use Rattle.rs_decode.proofs.inverse.inverse_columns.Given as goal

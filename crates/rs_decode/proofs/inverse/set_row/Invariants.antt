@@ -1,4 +1,4 @@
--- What each turn of the loop in `set_row` keeps.
+-- What each iteration of the loop in `set_row` keeps.
 use Rattle.std.proofs.Common.{◌≡◌, ◌≢◌, ℕ, ◌-◌, ◌<◌, length, get_or}
 use Rattle.coding.specs.Rows.{place}
 use Rattle.rs_decode.proofs.inverse.set_row.Given as goal

@@ -1,4 +1,4 @@
--- What each turn of the loop in `times_distances` keeps.
+-- What each iteration of the loop in `times_distances` keeps.
 use Rattle.std.proofs.Common.{◌≡◌, ℕ, ◌+◌, ◌≤◌, length, take}
 use Rattle.coding.specs.Field.{product}
 use Rattle.rs_decode.specs.Inner.Inverse.{IsPolynomial}

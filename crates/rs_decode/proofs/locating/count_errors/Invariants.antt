@@ -1,4 +1,4 @@
--- What each turn of the loop in `count_errors` keeps.
+-- What each iteration of the loop in `count_errors` keeps.
 use Rattle.std.proofs.Common.{◌≡◌, ◌+◌, ◌≤◌, drop}
 use Rattle.rs_decode.specs.Errors.{error_count}
 use Rattle.rs_decode.proofs.locating.count_errors.Given as goal

@@ -1,4 +1,4 @@
--- What each turn of the loop in `mark_zeros` keeps.
+-- What each iteration of the loop in `mark_zeros` keeps.
 use Rattle.std.proofs.Common.{◌≡◌, ℕ, ◌-◌, ◌<◌, ◌≤◌, false, ◌||◌, ◌==◌, length, get_or}
 use Rattle.coding.specs.Field.{alpha, power}
 use Rattle.coding.specs.Words.{value}

@@ -1,4 +1,4 @@
--- What each turn of the loop in `sums_without` keeps.
+-- What each iteration of the loop in `sums_without` keeps.
 use Rattle.std.proofs.Common.{◌≡◌, ℕ, ◌+◌, List, length, take}
 use Rattle.arrayvec.specs.ArrayVec.{array_vec_len}
 use Rattle.rs_decode.specs.Inner.Locator.{at_points, distances}

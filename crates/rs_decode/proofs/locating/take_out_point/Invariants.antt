@@ -1,4 +1,4 @@
--- What each turn of the loop in `take_out_point` keeps.
+-- What each iteration of the loop in `take_out_point` keeps.
 use Rattle.std.proofs.Common.{◌≡◌, ℕ, ◌+◌, ◌<◌, ◌≤◌, get_or}
 use Rattle.coding.specs.Field.{plus, product}
 use Rattle.rs_decode.proofs.locating.take_out_point.Given as goal

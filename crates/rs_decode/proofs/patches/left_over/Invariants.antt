@@ -1,4 +1,4 @@
--- What each turn of the loop in `left_over` keeps.
+-- What each iteration of the loop in `left_over` keeps.
 use Rattle.std.proofs.Common.{◌≡◌, ℕ, ◌<◌, ◌≤◌, length, take}
 use Rattle.coding.specs.Field.{plus}
 use Rattle.coding.specs.Rows.{column, place}

@@ -1,4 +1,4 @@
--- What each turn of the loop in `proposed` keeps.
+-- What each iteration of the loop in `proposed` keeps.
 use Rattle.std.proofs.Common.{◌≡◌, ℕ, ◌<◌, length}
 use Rattle.coding.specs.Field.{product}
 use Rattle.coding.specs.Rows.{place}

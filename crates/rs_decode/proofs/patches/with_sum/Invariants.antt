@@ -1,4 +1,4 @@
--- What each turn of the loop in `with_sum` keeps.
+-- What each iteration of the loop in `with_sum` keeps.
 use Rattle.std.proofs.Common.{◌≡◌, ℕ, ◌<◌, length, drop, get_or, take}
 use Rattle.coding.specs.Field.{plus}
 use Rattle.coding.specs.Rows.{column}

@@ -1,4 +1,4 @@
--- What each turn of the loop in `count_marks` keeps.
+-- What each iteration of the loop in `count_marks` keeps.
 use Rattle.std.proofs.Common.{◌≡◌, ◌≤◌, take}
 use Rattle.coding.specs.Filling.{marked}
 use Rattle.rs_decode.proofs.places.count_marks.Given as goal

@@ -1,4 +1,4 @@
--- What each turn of the loop in `gather_places` keeps.
+-- What each iteration of the loop in `gather_places` keeps.
 use Rattle.std.proofs.Common.{◌≡◌, ◌≤◌, length, take}
 use Rattle.coding.specs.Filling.{marked}
 use Rattle.rs_decode.specs.Inner.Places.{ArePlaces}

@@ -1,4 +1,4 @@
--- What each turn of the loop in `marked_points` keeps.
+-- What each iteration of the loop in `marked_points` keeps.
 use Rattle.std.proofs.Common.{◌≡◌, length, take}
 use Rattle.rs_code.specs.Inner.PowerSums.{points_of}
 use Rattle.rs_decode.specs.Inner.Places.{picked}

@@ -1,4 +1,4 @@
--- What each turn of the loop in `patch` keeps.
+-- What each iteration of the loop in `patch` keeps.
 use Rattle.std.proofs.Common.{◌≡◌, All, Bool, List, length, take}
 use Rattle.coding.specs.Words.{IsByte}
 use Rattle.rs_code.specs.Inner.PowerSums.{points_of}

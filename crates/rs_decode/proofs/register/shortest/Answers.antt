@@ -1,7 +1,7 @@
 -- The proof of `shortest` in src/register.rt.
 use Rattle.std.proofs.Common.{◌≡◌, ◌<◌, ◌∷◌, length, get_or, sym, subst, ◌∙◌, arith}
 use Rattle.std.proofs.lemmas.List.{get_or_read_under}
-use Rattle.rs_decode.proofs.Candidates.{IsLeft, IsAt-start, IsAt-next, IsLeft-stays, IsLeft-mended, IsLeft-longer}
+use Rattle.rs_decode.proofs.Candidates.{IsLeft, IsAt-start, IsAt-next, IsLeft-stays, IsLeft-corrected, IsLeft-longer}
 use Rattle.rs_decode.proofs.Registers.{Generates-end, IsLeast-end, IsShortestTo}
 use Rattle.rs_decode.proofs.register.shortest.Goals as goal
 use Rattle.rs_decode.proofs.register.shortest.Goals.{then-found-ne0+then-len-place, then-found-ne0+else-len-place, else-found-ne0}
@@ -30,14 +30,14 @@ loop-place-preserved c =
       | then-found-ne0+then-len-place w ↦
           rw (w.len-is, w.first-is, w.register-is, w.earlier-is)
           (IsLeft-longer n len register.taps earlier.taps seq register.connections earlier.connections c.requires inside at c.index-found.result.now
-          w.mended-register.result.taps w.mended-register.result.connections found w.if-found-ne0.true
-          w.mended-register.ensures.taps w.mended-register.ensures.connections w.inv-first.result w.scaled-earlier.result.taps w.scaled-earlier.result.connections
-          w.inv-first.ensures (omega arith) w.scaled-earlier.ensures.taps w.scaled-earlier.ensures.connections (omega (arith, w.if-len-place.true)))
+          w.corrected-register.result.taps w.corrected-register.result.connections found w.if-found-ne0.true
+          w.corrected-register.ensures.taps w.corrected-register.ensures.connections w.inv-first.result w.mul_scalar-earlier.result.taps w.mul_scalar-earlier.result.connections
+          w.inv-first.ensures (omega arith) w.mul_scalar-earlier.ensures.taps w.mul_scalar-earlier.ensures.connections (omega (arith, w.if-len-place.true)))
       | then-found-ne0+else-len-place w ↦
           rw (w.len-is, w.first-is, w.register-is, w.earlier-is)
-          (IsLeft-mended n len register.taps earlier.taps seq register.connections earlier.connections c.requires inside at c.index-found.result.now
-          w.mended-register.result.taps w.mended-register.result.connections found w.if-found-ne0.true
-          w.mended-register.ensures.taps w.mended-register.ensures.connections (omega (arith, w.if-len-place.false)))
+          (IsLeft-corrected n len register.taps earlier.taps seq register.connections earlier.connections c.requires inside at c.index-found.result.now
+          w.corrected-register.result.taps w.corrected-register.result.connections found w.if-found-ne0.true
+          w.corrected-register.ensures.taps w.corrected-register.ensures.connections (omega (arith, w.if-len-place.false)))
       | else-found-ne0 w ↦
           rw (w.len-is, w.first-is, w.register-is, w.earlier-is)
           (IsLeft-stays n len register.taps earlier.taps seq register.connections earlier.connections c.requires inside at (sym found ∙ w.if-found-ne0.false))

@@ -1,4 +1,4 @@
--- What each turn of the loop in `shortest` keeps.
+-- What each iteration of the loop in `shortest` keeps.
 use Rattle.std.proofs.Common.{◌≡◌, length}
 use Rattle.rs_decode.proofs.Candidates.{IsAt}
 use Rattle.rs_decode.proofs.register.shortest.Given as goal

@@ -18,5 +18,5 @@ returns-clause-each c = λ k below.
     let one_on : 1 + k ≡ k + 1 = omega arith in
     let at : get_or next k 0 ≡ get_or sums (k + 1) 0 =
     ap (λ xs. get_or xs k 0) next_is ∙ get_or-chunk 1 16 both k 0 (omega arith) ∙ ap (λ j. get_or both j 0) one_on ∙ get_or_append_left sums (replicate 16 0) 0 (k + 1) (omega arith) in
-    (HoldsLanes-zip2 16 plus next c.scaled.result refl c.scaled.ensures.size).each k (omega arith)
-    ∙ rw (at, c.scaled.ensures.each k (omega arith)) (ap (plus (get_or sums (k + 1) 0)) (product-comm (get_or sums k 0) c.args.point))
+    (HoldsLanes-zip2 16 plus next c.mul_scalar.result refl c.mul_scalar.ensures.size).each k (omega arith)
+    ∙ rw (at, c.mul_scalar.ensures.each k (omega arith)) (ap (plus (get_or sums (k + 1) 0)) (product-comm (get_or sums k 0) c.args.point))

@@ -1,4 +1,4 @@
--- What each turn of the loop in `without_points` keeps.
+-- What each iteration of the loop in `without_points` keeps.
 use Rattle.std.proofs.Common.{◌≡◌, ℕ, ◌-◌, List, length, take}
 use Rattle.rs_decode.specs.Inner.Locator.{at_points, distances}
 use Rattle.rs_decode.specs.Inner.Sums.{AreSums}

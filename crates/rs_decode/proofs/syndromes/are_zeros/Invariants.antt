@@ -1,4 +1,4 @@
--- What each turn of the loop in `are_zeros` keeps.
+-- What each iteration of the loop in `are_zeros` keeps.
 use Rattle.std.proofs.Common.{◌≡◌, ℕ, ◌<◌, get_or}
 use Rattle.rs_decode.proofs.syndromes.are_zeros.Given as goal
 

@@ -20,12 +20,12 @@ loop-i-preserved c =
     let i = c.loop-i.i - 1 in
     let before = c.loop-i.invariant in
     let up : suc i ≡ c.loop-i.i = omega arith in
-    let sums = HoldsLanes-zip2 16 plus c.loop-i.sums c.scaled-sums.result before.size c.scaled-sums.ensures.size in
+    let sums = HoldsLanes-zip2 16 plus c.loop-i.sums c.mul_scalar-sums.result before.size c.mul_scalar-sums.ensures.size in
     record {
       size = sums.size;
       each = λ k below.
           sums.each k below
-          ∙ power_sum-lane bytes points i k c.log.result (get_or c.loop-i.sums k 0) (get_or c.scaled-sums.result k 0) (omega (arith, c.requires.fits)) (omega arith) c.log.ensures.reaches
+          ∙ power_sum-lane bytes points i k c.log.result (get_or c.loop-i.sums k 0) (get_or c.mul_scalar-sums.result k 0) (omega (arith, c.requires.fits)) (omega arith) c.log.ensures.reaches
           (before.each k below ∙ ap (λ n. power_sum (drop n bytes) (drop n points) k) (sym up))
-          (c.scaled-sums.ensures.each k below ∙ ap (λ x. product x (get_or bytes i 0)) (c.powers.ensures.each k below));
+          (c.mul_scalar-sums.ensures.each k below ∙ ap (λ x. product x (get_or bytes i 0)) (c.powers.ensures.each k below));
     }

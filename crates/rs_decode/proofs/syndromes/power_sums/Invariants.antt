@@ -1,4 +1,4 @@
--- What each turn of the loop in `power_sums` keeps.
+-- What each iteration of the loop in `power_sums` keeps.
 use Rattle.std.proofs.Common.{drop}
 use Rattle.rs_code.specs.Inner.PowerSums.{power_sum}
 use Rattle.rs_lanes.specs.Inner.Lanes.{HoldsLanes}

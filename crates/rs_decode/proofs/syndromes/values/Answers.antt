@@ -24,12 +24,12 @@ loop-place-preserved c =
     let before = c.loop-place.invariant in
     let up : suc i ≡ c.loop-place.place = omega arith in
     let after : length word - 1 - i ≡ length word - suc i = omega arith in
-    let sums = HoldsLanes-zip2 16 plus c.loop-place.sums c.scaled-sums.result before.size c.scaled-sums.ensures.size in
+    let sums = HoldsLanes-zip2 16 plus c.loop-place.sums c.mul_scalar-sums.result before.size c.mul_scalar-sums.ensures.size in
     record {
       size = sums.size;
       each = λ k below.
           sums.each k below
-          ∙ value-lane word i k (get_or c.loop-place.sums k 0) (get_or c.scaled-sums.result k 0) (omega arith)
+          ∙ value-lane word i k (get_or c.loop-place.sums k 0) (get_or c.mul_scalar-sums.result k 0) (omega arith)
           (before.each k below ∙ ap (λ n. value (drop n word) (power alpha k)) (sym up))
-          (c.scaled-sums.ensures.each k below ∙ ap (λ x. product x (get_or word i 0)) (c.powers.ensures.each k below ∙ ap (λ n. power alpha (n * k)) after));
+          (c.mul_scalar-sums.ensures.each k below ∙ ap (λ x. product x (get_or word i 0)) (c.powers.ensures.each k below ∙ ap (λ n. power alpha (n * k)) after));
     }

@@ -1,4 +1,4 @@
--- What each turn of the loop in `values` keeps.
+-- What each iteration of the loop in `values` keeps.
 use Rattle.std.proofs.Common.{drop}
 use Rattle.coding.specs.Field.{alpha, power}
 use Rattle.coding.specs.Words.{value}

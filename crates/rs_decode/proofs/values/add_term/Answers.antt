@@ -12,7 +12,7 @@ loop-group-init c =
     record {
       size = refl;
       lanes = λ q below.
-          c.scaled-term.ensures.each q below
+          c.mul_scalar-term.ensures.each q below
           ∙ ap (λ p. product p coefficient) (c.powers.ensures.each q below)
           ∙ product-comm (power alpha (c.args.exponent * q)) coefficient
           ∙ (let first : q ≡ 0 + q = omega arith in ap (λ lane. product coefficient (power alpha (c.args.exponent * lane))) first);
@@ -31,7 +31,7 @@ loop-group-preserved c =
     record {
       size = c.add_lanes.ensures.size ∙ before.size;
       lanes = λ q below.
-          c.scaled-term-in-loop-group.ensures.each q below
+          c.mul_scalar-term-in-loop-group.ensures.each q below
           ∙ ap (λ p. product p c.alpha_pow-step.result) (before.lanes q below)
           ∙ ap (product (product coefficient (power alpha (exponent * (16 * group + q))))) c.alpha_pow-step.ensures
           ∙ term-next_group coefficient exponent group q;

@@ -1,4 +1,4 @@
--- What each turn of the loop in `add_term` keeps.
+-- What each iteration of the loop in `add_term` keeps.
 use Rattle.std.proofs.Common.{◌≡◌, ℕ, ◌+◌, ◌*◌, ◌<◌, ◌≤◌, length, get_or}
 use Rattle.coding.specs.Field.{alpha, plus, product, power}
 use Rattle.rs_decode.proofs.values.add_term.Given as goal

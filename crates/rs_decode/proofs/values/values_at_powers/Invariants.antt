@@ -1,4 +1,4 @@
--- What each turn of the loop in `values_at_powers` keeps.
+-- What each iteration of the loop in `values_at_powers` keeps.
 use Rattle.std.proofs.Common.{◌≡◌, ℕ, ◌-◌, ◌<◌, length, drop, get_or}
 use Rattle.coding.specs.Field.{alpha, power}
 use Rattle.coding.specs.Words.{value}

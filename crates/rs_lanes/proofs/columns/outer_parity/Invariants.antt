@@ -1,4 +1,4 @@
--- What each turn of the loop in `outer_parity` keeps.
+-- What each iteration of the loop in `outer_parity` keeps.
 use Rattle.std.proofs.Common.{◌≡◌, ℕ, ◌*◌, ◌<◌, ◌++◌, length}
 use Rattle.coding.specs.Words.{IsEncoded}
 use Rattle.coding.specs.Rows.{column}

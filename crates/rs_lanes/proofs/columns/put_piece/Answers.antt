@@ -10,6 +10,6 @@ pub loop-q-preserved : goal.loop-q-preserved
 loop-q-preserved g c = λ stored.
     let rows = map g.T.Row.word c.args.rows.now in
     thirds_more 47 (λ j. filled 208 (column rows (c.args.at + j))) (17 * c.args.piece + c.loop-q.q) (17 * c.args.piece + (c.loop-q.q + 1)) (2 * (4 - c.args.piece))
-    c.loop-q.thirds c.padded.result c.padded-in-loop-q.result c.padded-in-loop-q-2.result c.turned_thirds.result
+    c.loop-q.thirds c.padded.result c.padded-in-loop-q.result c.padded-in-loop-q-2.result c.rotated_thirds.result
     (omega (arith, c.requires.piece)) (omega arith) (omega (arith, c.requires.piece)) (λ j. column_filled g.T.Row.word c.args.rows.now (c.args.at + j) (omega (arith, c.requires))) (c.loop-q.invariant stored)
-    c.padded.ensures c.padded-in-loop-q.ensures c.padded-in-loop-q-2.ensures c.turned_thirds.ensures.bytes c.turned_thirds.ensures.thirds
+    c.padded.ensures c.padded-in-loop-q.ensures c.padded-in-loop-q-2.ensures c.rotated_thirds.ensures.bytes c.rotated_thirds.ensures.thirds

@@ -1,4 +1,4 @@
--- What each turn of the loop in `any_of` keeps.
+-- What each iteration of the loop in `any_of` keeps.
 use Rattle.std.proofs.Common.{◌≡◌, ◌↔◌, ℕ, ◌<◌, length, get_or}
 use Rattle.coding.specs.Rows.{place}
 use Rattle.rs_lanes.proofs.lanes.any_of.Given as goal

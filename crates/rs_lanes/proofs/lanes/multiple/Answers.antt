@@ -2,7 +2,7 @@
 use Rattle.rs_lanes.proofs.lanes.multiple.Goals as goal
 
 pub returns-clause-size : goal.returns-clause-size
-returns-clause-size c = (c.times.ensures c.args.factor c.products.ensures).size
+returns-clause-size c = (c.mul_const.ensures c.args.factor c.products.ensures).size
 
 pub returns-clause-each : goal.returns-clause-each
-returns-clause-each c = (c.times.ensures c.args.factor c.products.ensures).each
+returns-clause-each c = (c.mul_const.ensures c.args.factor c.products.ensures).each

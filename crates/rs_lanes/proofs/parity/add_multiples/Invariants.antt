@@ -1,4 +1,4 @@
--- What each turn of the loop in `add_multiples` keeps.
+-- What each iteration of the loop in `add_multiples` keeps.
 use Rattle.std.proofs.Common.{◌≡◌, ℕ, ◌<◌, ◌≤◌, length, get_or}
 use Rattle.coding.specs.Field.{plus, product}
 use Rattle.coding.specs.Rows.{line, place}

@@ -1,4 +1,4 @@
--- What each turn of the loop in `parity_of` keeps.
+-- What each iteration of the loop in `parity_of` keeps.
 use Rattle.std.proofs.Common.{◌≡◌, ℕ, ◌<◌, length}
 use Rattle.coding.specs.Rows.{line, place}
 use Rattle.rs_lanes.specs.Inner.Lanes.{HasLanes}

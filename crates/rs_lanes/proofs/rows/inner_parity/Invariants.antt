@@ -1,4 +1,4 @@
--- What each turn of the loop in `inner_parity` keeps.
+-- What each iteration of the loop in `inner_parity` keeps.
 use Rattle.std.proofs.Common.{◌≡◌, ℕ, ◌+◌, ◌<◌, ◌≤◌, ◌++◌, length, take}
 use Rattle.coding.specs.Rows.{line, column}
 use Rattle.rs_lanes.proofs.rows.inner_parity.Given as goal

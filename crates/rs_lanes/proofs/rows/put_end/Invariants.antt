@@ -1,4 +1,4 @@
--- What each turn of the loop in `put_end` keeps.
+-- What each iteration of the loop in `put_end` keeps.
 use Rattle.std.proofs.Common.{◌≡◌, ℕ, ◌+◌, ◌<◌, length, get_or}
 use Rattle.coding.specs.Rows.{place}
 use Rattle.rs_lanes.proofs.rows.put_end.Given as goal

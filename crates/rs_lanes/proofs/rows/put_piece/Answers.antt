@@ -11,6 +11,6 @@ loop-q-preserved c = λ stored.
     let transposed = c.args.transposed.now in
     let count = c.args.count in
     thirds_more 73 (λ n. filled 182 (take count (column transposed n))) (17 * c.args.piece + c.loop-q.q) (17 * c.args.piece + (c.loop-q.q + 1)) (2 * (4 - c.args.piece))
-    c.loop-q.thirds c.padded.result c.padded-in-loop-q.result c.padded-in-loop-q-2.result c.turned_thirds.result
+    c.loop-q.thirds c.padded.result c.padded-in-loop-q.result c.padded-in-loop-q-2.result c.rotated_thirds.result
     (omega (arith, c.requires.piece)) (omega arith) (omega (arith, c.requires.piece)) (λ n. lane_filled transposed count n (omega arith) c.requires.count) (c.loop-q.invariant stored)
-    c.padded.ensures c.padded-in-loop-q.ensures c.padded-in-loop-q-2.ensures c.turned_thirds.ensures.bytes c.turned_thirds.ensures.thirds
+    c.padded.ensures c.padded-in-loop-q.ensures c.padded-in-loop-q-2.ensures c.rotated_thirds.ensures.bytes c.rotated_thirds.ensures.thirds

@@ -1,4 +1,4 @@
--- What each turn of the loop in `put_piece` keeps.
+-- What each iteration of the loop in `put_piece` keeps.
 use Rattle.std.proofs.Common.{◌+◌, ◌*◌, take}
 use Rattle.coding.specs.Rows.{column}
 use Rattle.rs_lanes.specs.Inner.Parity.{filled}

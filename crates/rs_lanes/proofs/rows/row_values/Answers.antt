@@ -7,7 +7,7 @@ use Rattle.coding.specs.Rows.{line, place, column}
 use Rattle.rs_lanes.proofs.ColumnLemmas.{transposed_row}
 use Rattle.rs_lanes.proofs.rows.row_values.Goals as goal
 
--- a lane of the turned rows is its row
+-- a lane of the transposed rows is its row
 same : (rows transposed : List (List ℕ)) (top n : ℕ) → length transposed ≡ 182
     → length (line (map (λ row. row) rows) (top + n)) ≡ 182
     → ((k : ℕ) → k < 182 → place transposed k n ≡ place (map (λ row. row) rows) (top + n) k)

@@ -1,4 +1,4 @@
--- What each turn of the loop in `load_tile` keeps.
+-- What each iteration of the loop in `load_tile` keeps.
 use Rattle.std.proofs.Common.{map}
 use Rattle.rs_lanes.proofs.Tiles.{HasPairs}
 use Rattle.rs_lanes.proofs.transposing.load_tile.Given as goal

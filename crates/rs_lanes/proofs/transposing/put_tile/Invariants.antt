@@ -1,4 +1,4 @@
--- What each turn of the loop in `put_tile` keeps.
+-- What each iteration of the loop in `put_tile` keeps.
 use Rattle.std.proofs.Common.{◌≡◌, ℕ, ◌+◌, ◌<◌, ◌≤◌, length}
 use Rattle.coding.specs.Rows.{line}
 use Rattle.rs_lanes.proofs.transposing.put_tile.Given as goal

@@ -1,4 +1,4 @@
--- What each turn of the loop in `riffle` keeps.
+-- What each iteration of the loop in `riffle` keeps.
 use Rattle.std.proofs.Common.{◌≡◌, ℕ, ◌+◌, ◌*◌, ◌/◌, ◌%◌, ◌<◌, length}
 use Rattle.coding.specs.Rows.{line, place}
 use Rattle.rs_lanes.proofs.transposing.riffle.Given as goal

@@ -1,4 +1,4 @@
--- What each turn of the loop in `transpose` keeps.
+-- What each iteration of the loop in `transpose` keeps.
 use Rattle.std.proofs.Common.{◌≡◌, ℕ, ◌+◌, ◌*◌, ◌<◌, length, map}
 use Rattle.coding.specs.Rows.{line, place}
 use Rattle.rs_lanes.proofs.transposing.transpose.Given as goal

@@ -1,4 +1,4 @@
--- What each turn of the loop in `Reader::take` keeps.
+-- What each iteration of the loop in `Reader::take` keeps.
 use Rattle.std.proofs.Common.{◌≡◌, ◌++◌, ℕ, List, drop}
 use Rattle.cap_lost.specs.Inner.{HasReadOn, IsReaderSound, goes_on}
 use Rattle.cap_lost.proofs.reader.Reader.take.Given as goal

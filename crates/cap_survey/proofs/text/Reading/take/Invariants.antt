@@ -1,4 +1,4 @@
--- What each turn of the loop in `take` keeps.
+-- What each iteration of the loop in `take` keeps.
 use Rattle.std.proofs.Common.{◌≡◌, ◌<◌, ◌≤◌, ◌+◌, ◌^◌, ℕ, List, ◌++◌, drop}
 use Rattle.cap_survey.specs.Survey.{progress, reading_on}
 use Rattle.cap_survey.proofs.text.Reading.take.Given as goal

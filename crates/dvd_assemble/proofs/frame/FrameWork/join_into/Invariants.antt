@@ -1,4 +1,4 @@
--- What each turn of the loop in `FrameWork::join_into` keeps.
+-- What each iteration of the loop in `FrameWork::join_into` keeps.
 use Rattle.dvd_merge.specs.Merges.{table_of}
 use Rattle.dvd_assemble.specs.Works.{captured}
 use Rattle.dvd_assemble.proofs.Joining.{IsPartlyJoined}

@@ -1,4 +1,4 @@
--- What each turn of the loop in `FrameWork::put` keeps.
+-- What each iteration of the loop in `FrameWork::put` keeps.
 use Rattle.dvd_assemble.specs.Works.{frame_marks, frame_rows}
 use Rattle.dvd_assemble.proofs.Reading.{IsPartlyPut}
 use Rattle.dvd_assemble.proofs.frame.FrameWork.put.Given as goal

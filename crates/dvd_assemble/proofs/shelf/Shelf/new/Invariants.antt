@@ -1,4 +1,4 @@
--- What each turn of the loop in `Shelf::new` keeps.
+-- What each iteration of the loop in `Shelf::new` keeps.
 use Rattle.std.proofs.Common.{◌≡◌, replicate, vec_len, map}
 use Rattle.dvd_merge.specs.Join.{unseen}
 use Rattle.dvd_merge.specs.Merges.{table_of}

@@ -1,4 +1,4 @@
--- What each turn of the loop in `Header::from_bytes` keeps.
+-- What each iteration of the loop in `Header::from_bytes` keeps.
 use Rattle.std.proofs.Common.{◌≡◌, ℕ, ◌<◌, true, slice_index}
 use Rattle.dvd_capture.specs.Header.{may_be_there}
 use Rattle.dvd_capture.proofs.header.Header.from_bytes.Given as goal

@@ -1,4 +1,4 @@
--- What each turn of the loop in `RowMarks::unpack` keeps.
+-- What each iteration of the loop in `RowMarks::unpack` keeps.
 use Rattle.std.proofs.Common.{◌≡◌, ℕ, ◌<◌, false, length, get_or}
 use Rattle.dvd_capture.specs.MarkBits.{mark_at}
 use Rattle.dvd_capture.proofs.row_marks.RowMarks.unpack.Given as goal

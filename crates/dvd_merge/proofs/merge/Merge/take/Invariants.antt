@@ -1,4 +1,4 @@
--- What each turn of the loop in `Merge::take` keeps.
+-- What each iteration of the loop in `Merge::take` keeps.
 use Rattle.dvd_capture.specs.Works.{marks_of_work, rows_of}
 use Rattle.dvd_merge.specs.Merges.{table_of}
 use Rattle.dvd_merge.proofs.Tables.{AreTaken}

@@ -1,4 +1,4 @@
--- What each turn of the loop in `Line::put_hexadecimal` keeps.
+-- What each iteration of the loop in `Line::put_hexadecimal` keeps.
 use Rattle.std.proofs.Common.{◌≡◌, ◌+◌, ◌++◌, length}
 use Rattle.dvd_report.specs.Lines.{hexadecimal}
 use Rattle.dvd_report.proofs.text.Line.put_hexadecimal.Given as goal

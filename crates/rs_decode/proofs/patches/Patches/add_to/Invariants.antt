@@ -1,4 +1,4 @@
--- What each turn of the loop in `add_to` keeps.
+-- What each iteration of the loop in `add_to` keeps.
 use Rattle.std.proofs.Common.{◌≡◌, Bool, List, length, take}
 use Rattle.coding.specs.Filling.{marked}
 use Rattle.coding.specs.Rows.{column}

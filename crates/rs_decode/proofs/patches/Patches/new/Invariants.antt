@@ -1,4 +1,4 @@
--- What each turn of the loop in `new` keeps.
+-- What each iteration of the loop in `new` keeps.
 use Rattle.std.proofs.Common.{◌≡◌, ℕ, ◌<◌, length}
 use Rattle.coding.specs.Rows.{line}
 use Rattle.rs_decode.proofs.patches.Patches.new.Given as goal

@@ -1,4 +1,4 @@
--- What each turn of the loop in `believe` keeps.
+-- What each iteration of the loop in `believe` keeps.
 use Rattle.std.proofs.Common.{◌≡◌, ℕ, ◌<◌, ◌≤◌, false, length, get_or, replicate, All}
 use Rattle.coding.specs.Field.{alpha, plus, power}
 use Rattle.coding.specs.Words.{IsByte, value}
