@@ -36,7 +36,7 @@ pub fn sectors(work: &mut Work, plan: &BlockPlan) -> Result<(), Cause>
 /// Where the rows of a block that two passes fixed are read. They are whole in the received rows and in the rows'
 /// answers, and spread over all columns: each column has one byte of a row. So whole rows are read where there are any.
 #[derive(Clone, Copy, Debug, PartialEq, Eq)]
-pub enum FrameSource {
+pub(crate) enum FrameSource {
     /// In what was received, where the block is that.
     Received,
     /// In the rows' answers, where those are the block's, and the failed rows in the columns.
@@ -49,7 +49,7 @@ impl FrameSource {
     /// Where the rows of a block are read of which so many bytes were fixed, and whose answered rows are kept or may
     /// not be. A block of which no byte was fixed is what was received: also its failed rows, which `Answers` would
     /// read column by column. So this is asked first.
-    pub fn of(bytes: u32, are_kept: bool) -> FrameSource
+    pub(crate) fn of(bytes: u32, are_kept: bool) -> FrameSource
         ensures received { result ≡ FrameSource.Received → bytes ≡ 0 }
         ensures answers { result ≡ FrameSource.Answers → IsTrue are_kept }
     {
@@ -65,7 +65,11 @@ impl FrameSource {
 
 /// Checks the frames as `sectors` does, of rows that are read from this source. The source changes no answer, only
 /// time. It is for callers that answered the passes and know whether the rows are kept, as `end_reading` does.
-pub fn sectors_of_block(work: &mut Work, plan: &BlockPlan, source: FrameSource) -> Result<(), Cause>
+pub(crate) fn sectors_of_block(
+    work: &mut Work,
+    plan: &BlockPlan,
+    source: FrameSource,
+) -> Result<(), Cause>
     requires stage { stage_of work.old ≡ Stage.Fixed }
     requires numbers { HasNumbers plan.now }
     requires received { source ≡ FrameSource.Received → block_differences (rows_of work.old) (block_of work.old) ≡ 0 }

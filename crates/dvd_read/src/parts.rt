@@ -2,9 +2,8 @@
 //! at once. `two_pass` and `read_block` are made of the same calls, with one piece each. One frame is salvaged by
 //! itself, for whoever asks which of the sixteen are.
 pub use crate::columns::answer_columns;
-pub use crate::frames::{FrameSource, sectors_of_block};
 pub use crate::kept::are_kept;
 pub use crate::passes::{end_passes, few_failed};
 pub use crate::reading::end_reading;
 pub use crate::rescue::salvage_frame;
-pub use crate::rows::{answer_rows, are_few, mark_failed};
+pub use crate::rows::answer_rows;

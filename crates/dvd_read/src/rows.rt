@@ -239,7 +239,7 @@ fn answer_erased(
 
 /// Notes which rows failed. They are the marks of all columns, so that a flag for each row is needed and not their
 /// number alone. All 208 flags are set anew.
-pub fn mark_failed(answers: &[AnswerRow], failed: &mut [bool; 208])
+pub(crate) fn mark_failed(answers: &[AnswerRow], failed: &mut [bool; 208])
     requires { length answers.now ≡ 208 }
     ensures { failed.new ≡ failed_of (map answer_word answers.now) }
 {
@@ -250,7 +250,7 @@ pub fn mark_failed(answers: &[AnswerRow], failed: &mut [bool; 208])
 
 /// Whether no more rows failed than the second pass can correct: sixteen. Callers ask it before they answer columns,
 /// which are all without an answer otherwise.
-pub fn are_few(failed: &[bool; 208]) -> bool
+pub(crate) fn are_few(failed: &[bool; 208]) -> bool
     ensures { IsTrue result ↔ marked failed.now ≤ 16 }
 {
     count_failed(failed) <= MOST_FAILED

@@ -21,5 +21,5 @@ pub use fault::WordsFault;
 pub use parser::{parse_by, with_option};
 pub use settings::Settings;
 pub use table::{Command, Unit, unit_of};
-pub use values::{read_form, read_number, read_shape, read_within, read_zones};
+pub use values::{read_form, read_within};
 pub use words::{given, read, read_options};
