@@ -116,19 +116,18 @@ fn set_row(columns: &mut [[u8; 16]; 16], i: usize, polynomial: &[u8])
 {
     let size = polynomial.len();
     for k in 0..size {
-        columns[k] = with_byte(columns[k], i, polynomial[size - 1 - k]);
+        put_byte(&mut columns[k], i, polynomial[size - 1 - k]);
     }
 }
 
-// A column with a byte set. By itself, so that a clause says what stays of a column.
-fn with_byte(column: [u8; 16], i: usize, byte: u8) -> [u8; 16]
+// Sets a byte of a column. By itself, so that a clause says what stays of a column. It is set in place: a column that is
+// copied, changed and read again as a vector has to wait for the byte.
+fn put_byte(column: &mut [u8; 16], i: usize, byte: u8)
     requires { i < 16 }
-    ensures set { slice_index result i ≡ byte }
-    ensures others { (k : ℕ) → k ≢ i → slice_index result k ≡ slice_index column k }
+    ensures set { slice_index column.new i ≡ byte }
+    ensures others { (k : ℕ) → k ≢ i → slice_index column.new k ≡ slice_index column.old k }
 {
-    let mut column = column;
     column[i] = byte;
-    column
 }
 
 // The sum of the columns, each times one of the sums: lane `i` is row i times the sums.

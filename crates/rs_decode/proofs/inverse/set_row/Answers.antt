@@ -11,18 +11,18 @@ loop-k-preserved c =
     let i = c.args.i in
     let columns = c.loop-k.columns in
     let polynomial = c.args.polynomial.now in
-    let column = c.with_byte.result in
+    let column = c.put_byte.new.column in
     let before = c.loop-k.invariant in
     let inside : k < length columns = omega arith in
     record {
       size = length-set columns k column ∙ before.size;
       set = below_more (λ m. place (set columns k column) m i ≡ get_or polynomial (length polynomial - 1 - m) 0) k
           (λ m below. let other : m ≢ k = omega arith in rw get_or-set_other (before.set m below))
-          (rw get_or-set_same c.with_byte.ensures.set);
+          (rw get_or-set_same c.put_byte.ensures.set);
       others = λ m r other.
           elim (cases_eq m k) [
             | inl same ↦
-                subst (λ n. place (set columns k column) n r ≡ place c.args.columns.now n r) (sym same) (rw get_or-set_same (c.with_byte.ensures.others r other ∙ before.others k r other))
+                subst (λ n. place (set columns k column) n r ≡ place c.args.columns.now n r) (sym same) (rw get_or-set_same (c.put_byte.ensures.others r other ∙ before.others k r other))
             | inr differ ↦ rw get_or-set_other (before.others m r other)
           ];
     }
