@@ -27,7 +27,7 @@ use arrayvec::ArrayVec;
 use dvd_capture::parts::{AnswerRow, ColumnAnswer};
 use rs_code::Po;
 use rs_decode::{Erasures, Patches, decode_from};
-use rs_lanes::{any_of, column_values, load, load_transposed, store, transposed_values};
+use rs_lanes::{Thirds, any_of, column_values_by, load, load_transposed, store, transposed_values};
 use std::simd::prelude::*;
 
 /// Answers the columns from `start` on, one for each place of a piece of the columns. Answers whether they correct no
@@ -162,12 +162,15 @@ fn answer_copied(
     ensures columns { AreColumnsFrom (map answer_word answers.now) start piece.new }
     ensures kept { IsTrue result → AreKeptFrom answers.now start piece.new }
 {
+    // Room for all groups, so that it is set to zeros once.
+    let mut thirds = [[u8x32::splat(0); 3]; 85];
     let mut are_kept = true;
     for group in 0..piece.len().div_ceil(32) {
         let at = 32 * group;
         let end = piece.len().min(at + 32);
+        let columns = &mut piece[at..end];
         // Called before the `&&`, since each group has to be answered.
-        let group_is_kept = answer_group(code, answers, erasures, start + at, &mut piece[at..end]);
+        let group_is_kept = answer_group(code, answers, erasures, &mut thirds, start + at, columns);
         are_kept = are_kept && group_is_kept;
     }
     are_kept
@@ -175,11 +178,12 @@ fn answer_copied(
 
 // Answers at most 32 of these columns, by their values. Answers whether they correct no row that was answered.
 // The values that test a column are its syndromes too, so that a column isn't read once more to be decoded. Where rows
-// failed, all columns need bytes in these rows: they are found for 32 at once.
+// failed, all columns need bytes in these rows: they are found for 32 at once. What the thirds were isn't read.
 fn answer_group(
     code: &Po,
     answers: &[AnswerRow],
     erasures: &Erasures<208>,
+    thirds: &mut Thirds,
     start: usize,
     piece: &mut [ColumnAnswer],
 ) -> bool
@@ -196,7 +200,7 @@ fn answer_group(
     // The values of 32 columns are found even where fewer follow: the last 32 begin at column 150. They are those of
     // the rows' answers, where the bytes of 32 columns lie side by side, and so of the columns as they were copied.
     let left = start.min(150);
-    let values = column_values(answers, left);
+    let values = column_values_by(thirds, answers, left);
     let wrong = any_of(&values);
     let patches = patches_for(erasures, &values, wrong);
     let mut are_kept = true;

@@ -20,7 +20,7 @@ use arrayvec::ArrayVec;
 use dvd_capture::parts::{AnswerRow, Marks, Received};
 use rs_code::Pi;
 use rs_decode::{Erasures, Fix, decode_from};
-use rs_lanes::{any_of, row_values};
+use rs_lanes::{Thirds, any_of, row_values_by};
 use rs_propose::Proposals;
 use std::simd::prelude::*;
 
@@ -53,13 +53,15 @@ pub fn answer_rows(
     requires { start + length piece.old ≤ 208 }
     ensures { AreAnswersFrom (received_rows received.now) (marks_rows marks.now) start piece.new }
 {
+    // Room for all groups, so that it is set to zeros once.
+    let mut thirds = [[u8x32::splat(0); 3]; 85];
     for group in 0..piece.len().div_ceil(32) {
         let at = 32 * group;
         let end = piece.len().min(at + 32);
         let rows = &mut piece[at..end];
         // Where all are lost, their values aren't needed.
         if !answer_lost_rows(received, marks, start + at, rows) {
-            answer_group(code, received, marks, start + at, rows);
+            answer_group(code, received, marks, &mut thirds, start + at, rows);
         }
     }
 }
@@ -102,11 +104,13 @@ fn answer_lost(row: &[u8; 182], marks: &Marks, i: usize, answer: &mut AnswerRow)
     is_lost
 }
 
-// Answers at most 32 rows. The values of all are found at once, and show which rows are codewords.
+// Answers at most 32 rows. The values of all are found at once, and show which rows are codewords. What the thirds were
+// isn't read.
 fn answer_group(
     code: &Pi,
     received: &Received,
     marks: &Marks,
+    thirds: &mut Thirds,
     start: usize,
     piece: &mut [AnswerRow],
 )
@@ -117,7 +121,7 @@ fn answer_group(
 {
     // Values are found for 32 rows, also where fewer are left: the last 32 rows of 208 begin at row 176.
     let top = start.min(176);
-    let values = row_values(received.rows(), top);
+    let values = row_values_by(thirds, received.rows(), top);
     let wrong = any_of(&values);
     // Those of no row: where none are made, none is believed, and each row is decoded by itself.
     let mut proposals = Proposals::none();

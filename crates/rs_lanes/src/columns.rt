@@ -15,7 +15,7 @@ ghost use Rattle.rs_lanes.specs.Inner.Lanes.{HasLanes};
 ghost use Rattle.rs_lanes.specs.Inner.Parity.{filled};
 ghost use Rattle.rs_lanes.specs.Inner.Thirds.{after_zeros, third, AreStored, IsThird};
 
-use crate::fold3::{rotated_thirds, values_of};
+use crate::fold3::{Thirds, rotated_thirds, values_of};
 use crate::lanes::{load, store};
 use crate::matrices::PO_MATRIX;
 use crate::parity::parity_of;
@@ -50,9 +50,20 @@ pub fn column_values<T: Row>(rows: &[T], at: usize) -> [u8x32; 16]
     ensures lanes { EachIndex result (λ k. length (line result k) ≡ 32) }
     ensures values { (k j : ℕ) → k < 16 → j < 32 → place result k j ≡ value (column (map T.word rows.now) (at + j)) (power alpha k) }
 {
-    let mut thirds = [[u8x32::splat(0); 3]; 85];
-    put_thirds(rows, 208, at, &mut thirds);
-    values_of(&thirds)
+    column_values_by(&mut [[u8x32::splat(0); 3]; 85], rows, at)
+}
+
+/// Likewise by thirds that are put where the caller has room for them, for callers that go through all columns of a
+/// block, as `row_values_by` says.
+pub fn column_values_by<T: Row>(thirds: &mut Thirds, rows: &[T], at: usize) -> [u8x32; 16]
+    requires at { at + 32 ≤ 182 }
+    requires rows { length rows.now ≡ 208 }
+    ensures bytes { (j : ℕ) → j < 32 → All IsByte (column (map T.word rows.now) (at + j)) }
+    ensures lanes { EachIndex result (λ k. length (line result k) ≡ 32) }
+    ensures values { (k j : ℕ) → k < 16 → j < 32 → place result k j ≡ value (column (map T.word rows.now) (at + j)) (power alpha k) }
+{
+    put_thirds(rows, 208, at, thirds);
+    values_of(thirds)
 }
 
 /// The outer parity of the 32 columns from `at` on of 192 rows, a vector for each of its sixteen bytes. Lane `n` is for

@@ -22,6 +22,9 @@ use crate::gf_tables::{powers_of, products};
 use crate::lanes::{mul_const, xor};
 use std::simd::prelude::*;
 
+/// The thirds of 32 words: vector `i` of entry `p` has place `p` of third `i`, a lane for each word.
+pub type Thirds = [[u8x32; 3]; 85];
+
 /// One place of the three thirds, by that place of the three pieces, the first piece first. Third `i` is rotated `i`
 /// times as often as is asked. A rotation is a product with alpha^85, but none is made for it: where the pieces change
 /// places in a circle, third `i` is rotated `i` times. So all three are rotated at once. Also ensures that the lanes of

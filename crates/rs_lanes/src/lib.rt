@@ -30,9 +30,10 @@ pub mod rows;
 mod tests;
 pub mod transposing;
 
-pub use columns::{column_values, outer_parity, parity_of_columns};
+pub use columns::{column_values, column_values_by, outer_parity, parity_of_columns};
+pub use fold3::Thirds;
 pub use lanes::{any_of, are_zeros, load, multiple, store, with_multiple};
 pub use points::{mul_scalar, powers};
 pub use row::Row;
-pub use rows::{inner_parity, row_values, transposed_values};
+pub use rows::{inner_parity, row_values, row_values_by, transposed_values};
 pub use transposing::load_transposed;

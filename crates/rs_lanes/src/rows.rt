@@ -15,7 +15,7 @@ ghost use Rattle.coding.specs.Rows.{line, place, column};
 ghost use Rattle.rs_lanes.specs.Inner.Parity.{filled};
 ghost use Rattle.rs_lanes.specs.Inner.Thirds.{after_zeros, third, AreStored, IsThird};
 
-use crate::fold3::{rotated_thirds, values_of};
+use crate::fold3::{Thirds, rotated_thirds, values_of};
 use crate::matrices::PI_MATRIX;
 use crate::parity::parity_of;
 use crate::transposing::transpose;
@@ -52,9 +52,21 @@ pub fn row_values(rows: &[[u8; 182]], top: usize) -> [u8x32; 10]
     ensures lanes { EachIndex result (λ k. length (line result k) ≡ 32) }
     ensures values { (k n : ℕ) → k < 10 → n < 32 → place result k n ≡ value (line rows.now (top + n)) (power alpha k) }
 {
+    row_values_by(&mut [[u8x32::splat(0); 3]; 85], rows, top)
+}
+
+/// Likewise by thirds that are put where the caller has room for them, for callers that go through all rows of a block:
+/// what the room has isn't read, so one serves all groups, and isn't set to zeros for each.
+pub fn row_values_by(thirds: &mut Thirds, rows: &[[u8; 182]], top: usize) -> [u8x32; 10]
+    requires { top + 32 ≤ length rows.now }
+    ensures sizes { (n : ℕ) → n < 32 → length (line rows.now (top + n)) ≡ 182 }
+    ensures bytes { (n : ℕ) → n < 32 → All IsByte (line rows.now (top + n)) }
+    ensures lanes { EachIndex result (λ k. length (line result k) ≡ 32) }
+    ensures values { (k n : ℕ) → k < 10 → n < 32 → place result k n ≡ value (line rows.now (top + n)) (power alpha k) }
+{
     let mut transposed = [u8x32::splat(0); 182];
     transpose(rows, top, &mut transposed);
-    transposed_values(&transposed)
+    values_by(thirds, &transposed)
 }
 
 /// Likewise for 32 transposed words, where each vector has one place of all words: the values of word `n` are in lane
@@ -65,9 +77,17 @@ pub fn transposed_values(transposed: &[u8x32; 182]) -> [u8x32; 10]
     ensures lanes { EachIndex result (λ k. length (line result k) ≡ 32) }
     ensures values { (k n : ℕ) → k < 10 → n < 32 → place result k n ≡ value (column transposed.now n) (power alpha k) }
 {
-    let mut thirds = [[u8x32::splat(0); 3]; 85];
-    put_thirds(transposed, 182, &mut thirds);
-    values_of(&thirds)
+    values_by(&mut [[u8x32::splat(0); 3]; 85], transposed)
+}
+
+// The same by thirds that are put where the caller has room for them.
+fn values_by(thirds: &mut Thirds, transposed: &[u8x32; 182]) -> [u8x32; 10]
+    ensures bytes { (n : ℕ) → n < 32 → All IsByte (column transposed.now n) }
+    ensures lanes { EachIndex result (λ k. length (line result k) ≡ 32) }
+    ensures values { (k n : ℕ) → k < 10 → n < 32 → place result k n ≡ value (column transposed.now n) (power alpha k) }
+{
+    put_thirds(transposed, 182, thirds);
+    values_of(thirds)
 }
 
 // Sets the last ten bytes of a row to lane `n` of these vectors. They are set one by one, since a vector has one byte

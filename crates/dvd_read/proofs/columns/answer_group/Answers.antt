@@ -27,8 +27,8 @@ fill_column-requires-clause-wrong c = λ zero_is.
     ∙ c.requires.own.are c.loop-k.k blank_column c.loop-k-test.true in
     subst (IsCodeword 208 16) (sym own)
     (column_vanishes c.args.answers.now (c.args.start + c.loop-k.k) c.requires.rows
-    (subst (λ (j : ℕ). All IsByte (word j)) at (c.column_values-values.ensures.bytes n below))
-    (λ k under. ap (λ (j : ℕ). value (word j) (power alpha k)) (sym at) ∙ sym (c.column_values-values.ensures.values k n under below) ∙ zeros k under))
+    (subst (λ (j : ℕ). All IsByte (word j)) at (c.column_values_by-values.ensures.bytes n below))
+    (λ k under. ap (λ (j : ℕ). value (word j) (power alpha k)) (sym at) ∙ sym (c.column_values_by-values.ensures.values k n under below) ∙ zeros k under))
 
 pub returns-clause-columns : goal.returns-clause-columns
 returns-clause-columns c = record {

@@ -18,4 +18,4 @@ answer_codeword-requires c = λ k below.
     sym (get_or_read_under wrong n 32 c.index.result.now 0 c.index.ensures inside (sym c.any_of-wrong.ensures.size)) ∙ c.if-index-eq0.true in
     ap (λ (row : List ℕ). value row (power alpha k))
     (c.row-row.ensures ∙ ap (line (received_rows c.args.received.now)) here ∙ ap (λ (rows : List (List ℕ)). line rows (top + n)) (sym c.rows.ensures.rows))
-    ∙ sym (c.row_values-values.ensures.values k n below inside) ∙ (c.any_of-wrong.ensures.zeros n inside).0 zero_is k below
+    ∙ sym (c.row_values_by-values.ensures.values k n below inside) ∙ (c.any_of-wrong.ensures.zeros n inside).0 zero_is k below

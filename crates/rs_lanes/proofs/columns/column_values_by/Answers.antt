@@ -1,4 +1,4 @@
--- The proof of `column_values` in src/columns.rt.
+-- The proof of `column_values_by` in src/columns.rt.
 use Rattle.std.proofs.Common.{◌≡◌, ◌%◌, ◌+◌, length, map, refl, ap, ◌∙◌, arith}
 use Rattle.std.proofs.lemmas.List.{length-map}
 use Rattle.coding.specs.Field.{alpha, power}
@@ -6,7 +6,7 @@ use Rattle.coding.specs.Words.{value}
 use Rattle.coding.specs.Rows.{column}
 use Rattle.rs_lanes.proofs.ColumnLemmas.{length-column}
 use Rattle.rs_lanes.proofs.ParityLemmas.{filled-whole}
-use Rattle.rs_lanes.proofs.columns.column_values.Goals as goal
+use Rattle.rs_lanes.proofs.columns.column_values_by.Goals as goal
 
 pub returns-clause-lanes : goal.returns-clause-lanes
 returns-clause-lanes g c = λ k inside. (c.values_of.ensures k (omega arith)).size

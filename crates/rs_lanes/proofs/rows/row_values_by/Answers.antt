@@ -1,11 +1,11 @@
--- The proof of `row_values` in src/rows.rt.
+-- The proof of `row_values_by` in src/rows.rt.
 use Rattle.std.proofs.Common.{◌≡◌, ℕ, ◌+◌, ◌<◌, List, length, map, All, ap, subst, ◌∙◌, arith}
 use Rattle.std.proofs.lemmas.List.{map-id}
 use Rattle.coding.specs.Field.{alpha, power}
 use Rattle.coding.specs.Words.{IsByte, value}
 use Rattle.coding.specs.Rows.{line, place, column}
 use Rattle.rs_lanes.proofs.ColumnLemmas.{transposed_row}
-use Rattle.rs_lanes.proofs.rows.row_values.Goals as goal
+use Rattle.rs_lanes.proofs.rows.row_values_by.Goals as goal
 
 -- a lane of the transposed rows is its row
 same : (rows transposed : List (List ℕ)) (top n : ℕ) → length transposed ≡ 182
@@ -24,10 +24,10 @@ pub returns-clause-bytes : goal.returns-clause-bytes
 returns-clause-bytes c = λ n below.
     subst (All IsByte)
     (same c.args.rows.now c.transpose.new.transposed c.args.top n (omega arith) (c.transpose.ensures.sizes n below) (λ k inside. c.transpose.ensures.transposed k n inside below))
-    (c.transposed_values.ensures.bytes n below)
+    (c.values_by.ensures.bytes n below)
 
 pub returns-clause-values : goal.returns-clause-values
 returns-clause-values c = λ k n few below.
-    c.transposed_values.ensures.values k n few below
+    c.values_by.ensures.values k n few below
     ∙ ap (λ word. value word (power alpha k))
     (same c.args.rows.now c.transpose.new.transposed c.args.top n (omega arith) (c.transpose.ensures.sizes n below) (λ p inside. c.transpose.ensures.transposed p n inside below))

@@ -1,4 +1,4 @@
--- The proof of `transposed_values` in src/rows.rt.
+-- The proof of `values_by` in src/rows.rt.
 use Rattle.std.proofs.Common.{◌≡◌, ℕ, ◌%◌, List, length, take, All, refl, sym, ap, subst, ◌∙◌, arith}
 use Rattle.std.proofs.Math.Seq.{take-length}
 use Rattle.coding.specs.Field.{alpha, power}
@@ -7,7 +7,7 @@ use Rattle.coding.specs.Rows.{column}
 use Rattle.rs_lanes.specs.Inner.Parity.{filled}
 use Rattle.rs_lanes.proofs.ColumnLemmas.{length-column}
 use Rattle.rs_lanes.proofs.ParityLemmas.{filled-whole}
-use Rattle.rs_lanes.proofs.rows.transposed_values.Goals as goal
+use Rattle.rs_lanes.proofs.rows.values_by.Goals as goal
 
 -- all 182 places of a lane are its word
 whole : (transposed : List (List ℕ)) (n : ℕ) → length transposed ≡ 182 → take 182 (column transposed n) ≡ column transposed n
