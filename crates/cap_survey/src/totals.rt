@@ -125,7 +125,7 @@ pub fn greatest_sum8(cells: &[Cell]) -> u16
     cells.iter().fold(0, |most, cell| cell.sum8.max(most))
 }
 
-/// The greatest number of failed rows of some blocks, and 0 of none.
+/// The greatest number of failed rows of some blocks, and 0 of none. The bar of failed rows of a column is made of it.
 pub fn greatest_failed(cells: &[Cell]) -> u8
     ensures { result ≡ greatest_of failed_in_cell cells.now }
 {

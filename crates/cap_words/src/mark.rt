@@ -18,8 +18,9 @@ pub fn mark_settings<'a>(matches: &ArgMatches<'a>) -> Option<MarkSettings<'a>>
     Some(MarkSettings { map, good })
 }
 
-// The statuses that are trusted: those that are given, each of which a block can have, or `+` alone. A missing mark
-// costs more than one too many, since an error costs a row twice what an erasure does.
+// The statuses that are trusted: those that are given, each of which a block can have, or `+` alone. They are those of
+// a map of ddrescue, in which `+` is a part that was read whole. A missing mark costs more than one too many, since an
+// error costs a row twice what an erasure does.
 fn good_in<'a>(text: Option<&'a str>) -> Option<&'a str>
     ensures { option_map (λ s. s.now) result ≡ good_in (option_map (λ s. s.now) text.entry) }
 {

@@ -25,7 +25,8 @@ pub fn write_round<E: Sink>(
     write_whole(report, line_of(k, plan, round).as_slice())
 }
 
-// The whole line, so that it goes out as one piece. It needs no `room`: its longest has 62 bytes.
+// The whole line, so that it goes out as one piece. Its longest has 62 bytes, and a `Line` has room for 256: so no call
+// has to show that there is room.
 // It begins as a damage line does, so that a rescuer finds the block in the same way. `unfolding` is for the checker:
 // it opens the definition that the clause names.
 #[tactic(auto, unfolding(crate::specs::Lines::round_line))]

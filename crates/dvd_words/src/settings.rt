@@ -45,8 +45,9 @@ impl Settings {
     ghost use Rattle.std.specs.Prelude.{◌≡◌, None, Some, IsOk, IfErr, IfOk};
     ghost use Rattle.dvd_words.specs.Settings.{IsLayoutOf, broken_rule};
 
-    /// The layout of these lengths, or the first rule that they break. `Layout::new` tries the rules in one order, so
-    /// that the same lengths break the same first rule.
+    /// The layout of these lengths, or the first rule that they break. Who reads the arguments doesn't try these rules:
+    /// a broken one is found here, where the layout is asked for. `Layout::new` tries the rules in one order, so that
+    /// the same lengths break the same first rule.
     pub fn layout(&self) -> Result<Layout, LayoutFault>
         ensures lengths { IfOk result (IsLayoutOf self.now) }
         ensures valid { IsOk result → broken_rule self.now ≡ None }

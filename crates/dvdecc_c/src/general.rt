@@ -2,8 +2,8 @@
 //! zeros, and whose first bytes have to stay zeros.
 //!
 //! The lengths of a code are parameters of its type. With 255 for all words, 32 codes are enough: one for each number
-//! of parity bytes. 255 is the longest, since the field has 255 elements other than 0; 32 is a choice. In the clauses 5
-//! is the status BAD_LENGTH.
+//! of parity bytes. 255 is the longest, since the field has 255 elements other than 0; 32 is the most for which the
+//! lists of rs_code have room. In the clauses 5 is the status BAD_LENGTH.
 //!
 //! The exports are public and keep their names (`no_mangle`), since C finds them by these. To C a slice is a pointer
 //! and a length, so a length has to be tested here before anything else.

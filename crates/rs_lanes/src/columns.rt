@@ -53,8 +53,8 @@ pub fn column_values<T: Row>(rows: &[T], at: usize) -> [u8x32; 16]
     column_values_by(&mut [[u8x32::splat(0); 3]; 85], rows, at)
 }
 
-/// Likewise by thirds that are put where the caller has room for them, for callers that go through all columns of a
-/// block, as `row_values_by` says.
+/// The values of 32 columns as `column_values` has them, by thirds that are put where the caller has room for them, as
+/// `row_values_by` has those of rows.
 pub fn column_values_by<T: Row>(thirds: &mut Thirds, rows: &[T], at: usize) -> [u8x32; 16]
     requires at { at + 32 ≤ 182 }
     requires rows { length rows.now ≡ 208 }

@@ -181,8 +181,9 @@ fn multiplied(lanes: u8x32, k: usize) -> u8x32
 // The exponent with number `m` of a third. The five are those with the remainder `i` by 3, in the order in which
 // `fold5` has their values: their 17th powers are that of the first one times the powers of alpha^51, one by one. They
 // depend on the remainder of the exponent by 15 alone, since alpha^255 is 1.
-// The first one is 10 i, which has this remainder too: its 17th power is alpha^(170 i), a third root of one. So of the
-// four pieces that `fold5` multiplies by its powers one needs no product. From i on all four would.
+// The first one is 10 i, which has this remainder too: its 17th power is alpha^(170 i), a third root of one. So to
+// multiply a piece by a power of it is to rotate it, and no product is made. From i on each piece but the last would
+// need one.
 #[inline(always)]
 fn exponent(i: usize, m: usize) -> usize
     requires third { i < 3 }

@@ -55,8 +55,9 @@ pub fn row_values(rows: &[[u8; 182]], top: usize) -> [u8x32; 10]
     row_values_by(&mut [[u8x32::splat(0); 3]; 85], rows, top)
 }
 
-/// Likewise by thirds that are put where the caller has room for them, for callers that go through all rows of a block:
-/// what the room has isn't read, so one serves all groups, and isn't set to zeros for each.
+/// The values of 32 rows as `row_values` has them, by thirds that are put where the caller has room for them. It is for
+/// callers that go through all rows of a block: what the room has isn't read, so one serves all groups, and isn't set
+/// to zeros for each.
 pub fn row_values_by(thirds: &mut Thirds, rows: &[[u8; 182]], top: usize) -> [u8x32; 10]
     requires { top + 32 ≤ length rows.now }
     ensures sizes { (n : ℕ) → n < 32 → length (line rows.now (top + n)) ≡ 182 }
@@ -69,8 +70,9 @@ pub fn row_values_by(thirds: &mut Thirds, rows: &[[u8; 182]], top: usize) -> [u8
     values_by(thirds, &transposed)
 }
 
-/// Likewise for 32 transposed words, where each vector has one place of all words: the values of word `n` are in lane
-/// `n`. It is public for callers that store columns: 32 bytes of a column are such a vector, and nothing is transposed.
+/// The values of 32 transposed words at the same powers, where each vector has one place of all words: those of word
+/// `n` are in lane `n`. It is public for callers that store columns: 32 bytes of a column are such a vector, and
+/// nothing is transposed.
 /// Also ensures that the elements of the words are bytes, which a codeword has to be made of.
 pub fn transposed_values(transposed: &[u8x32; 182]) -> [u8x32; 10]
     ensures bytes { (n : ℕ) → n < 32 → All IsByte (column transposed.now n) }
@@ -80,7 +82,7 @@ pub fn transposed_values(transposed: &[u8x32; 182]) -> [u8x32; 10]
     values_by(&mut [[u8x32::splat(0); 3]; 85], transposed)
 }
 
-// The same by thirds that are put where the caller has room for them.
+// The values of 32 transposed words, by thirds that are put where the caller has room for them.
 fn values_by(thirds: &mut Thirds, transposed: &[u8x32; 182]) -> [u8x32; 10]
     ensures bytes { (n : ℕ) → n < 32 → All IsByte (column transposed.now n) }
     ensures lanes { EachIndex result (λ k. length (line result k) ≡ 32) }
