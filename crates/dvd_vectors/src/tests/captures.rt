@@ -1,5 +1,8 @@
 //! Captures put together: scattered recording frames put in order, whatever their order, with repeats, gaps and strays;
 //! and captures of one disk joined, where what one has lost another gives, and where two differ neither is believed.
+//! `run: A over B -> C` runs arguments A over bytes B, and C must come: status, amount of output (or all) and report
+//! (or `done`). What a line doesn't say stays. `case` has the bytes changed, `also` changes them for good. `{a, b}` are
+//! tried one by one, `[a, b]` through a group of lines, and `(a, b)` are a line of the report each.
 use dvd_trial::{Held, hold};
 
 const CAPTURES: &str = "

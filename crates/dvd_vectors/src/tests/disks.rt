@@ -2,13 +2,17 @@
 //! and the first bytes were computed by another program from the standard. And the physical format that `info` finds in
 //! them, and what it answers where there is none. Where `=>` is written, the same comes in pieces of 1, 7, 2047 and
 //! 40,000 bytes.
+//! `run: A over B -> C` runs arguments A over bytes B, and C must come: status, amount of output (or all) and report
+//! (or `done`). What a line doesn't say stays. `case` has the bytes changed, `also` changes them for good. `{a, b}` are
+//! tried one by one, `[a, b]` through a group of lines, and `(a, b)` are a line of the report each.
 use dvd_trial::{Held, hold};
 
 const DISKS: &str = "
 # An image with a byte too many.
 run: master --sectors 17 over image of 18 sectors | front 34817 bytes
-writes: 1000 bytes a call -> Long, 2 blocks: long
-# Words that ask for no layout.
+writes: 1000 bytes a call -> Long: long with image of 17 sectors | recorded
+# Arguments whose layout breaks a rule. A layer begins at 030000, has whole blocks and a tail of 256 sectors, and ends
+# before 800000.
 run: master --sectors 0 or recover --sectors 0 -> Setting, 0 bytes: setting: empty layer 0
 run: master --sectors {8191745, 4294967295}    -> Setting, 0 bytes: setting: layer 0 too long {8388624, 4295164160}
 
@@ -23,7 +27,7 @@ given: 48 sectors of 00
 run: master --sectors 32 --sectors1 16 --shape opposite --zones all  -> Done, 307 blocks; at 274 blocks: 2DFCFEE0
 run: master --shape parallel --sectors 32 --sectors1 16 --zones data -> Done, 3 blocks; at 2 blocks: 21030000
 
-# Disks of every shape with all of their zones. They are read back where nothing could be read of the first block.
+# Disks of every shape with all of their zones. They are read back where the first block, of the lead-in, is lost.
 name: cpr = --cpr 0102030405ab
 name: disk = --sectors [17, 32 --sectors1 17 --shape parallel, 32 --sectors1 17 --shape opposite] --zones all
 run: master <disk> <cpr> over image of [17, 49, 49] sectors
@@ -42,7 +46,8 @@ at 258 blocks: 2C030020323D00000000000002004408; at 274 blocks: 2DFCFEE0DC130000
 at 290 blocks: 21FCFFE05F9D0102030405ABE6DD909D; at 292 blocks: 29FD0000528600000000000001002204
 
 # A disk of one layer with all of its zones. The first control block comes after 32 others, and nothing after it is
-# read: 33 blocks of eight calls. Each of its 192 control blocks gives the format where those before it are destroyed.
+# read: 33 blocks of eight calls. Where a call fails, what came before it is left, and nothing is tried again. Each of
+# the 192 control blocks gives the format where those before it are destroyed.
 name: none = NoControl, 0 bytes: no control block
 run: info over image of 16 sectors | master --sectors 16 --zones all makes 273 blocks
 => Done; read: 33 blocks with lines \
@@ -67,8 +72,8 @@ case: 224 blocks of 00                   -> <none>
 case: 224 blocks of 00 | cut off 1 byte  -> Short, 0 bytes: short: block 223, 37855 bytes
 run: info --form marked
 case: 1 marked block and 5 bytes of 00   -> Short, 0 bytes: short: block 1, 5 bytes
-case: 1 block of 00
-run: info --initial {12032, 4294967295}  -> Setting, 0 bytes: setting: initial too long {12032, 4294967295}
+run: info --initial {12032, 4294967295} over 1 block of 00 \
+-> Setting, 0 bytes: setting: initial too long {12032, 4294967295}
 ";
 
 #[test]

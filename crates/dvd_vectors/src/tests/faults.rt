@@ -1,10 +1,15 @@
-//! How much exactly is left after a fault, and the lines. Of several values in braces one after the other is tried.
-//! Then every command over a small input: in pieces of 1, 7, 2047 and 40,000 bytes, where `=>` is written, and with
-//! each call of its input, its output and its report failing in turn; those of `survey`, `info` and `exercise` are in
-//! `survey`, `disks` and `workers`. Each digest was computed by another program. Where each call stops it, no stream is
-//! asked for anything more after a failed call, and after a read that met the end of the input, but the report, for the
-//! closing line; and after a fault of the report not even that. Other hostile inputs are in `recover` (blocks cut off,
-//! followed by more, marked in every byte, or of another place or disk) and `loops` (an output that keeps nothing).
+//! How much exactly is left after a fault, and which lines of the report. Then every command over a small input, in
+//! pieces of 1, 7, 2047 and 40,000 bytes where `=>` is written, and with calls that fail; those of `survey`, `info` and
+//! `exercise` are in `survey`, `disks` and `workers`. `all fail in turn` names all calls of a stream: where one fails,
+//! the status is its fault, and a prefix of the output and of the lines is left. `each call stops it` names how many
+//! calls of each stream, and of its flushes, fail one after the other, over the input and over that without its last
+//! byte: no stream is then asked for anything more but the report, for the closing line; after a fault of the report
+//! not even that. A report is cut off at `..`, and calls are counted from 0. Each digest was computed by another
+//! program. Other hostile inputs are in `recover` (blocks cut off, followed by more, marked in every byte, or of
+//! another place or disk) and `loops` (an output that keeps nothing).
+//! `run: A over B -> C` runs arguments A over bytes B, and C must come: status, amount of output (or all) and report
+//! (or `done`). What a line doesn't say stays. `case` has the bytes changed, `also` changes them for good. `{a, b}` are
+//! tried one by one, `[a, b]` through a group of lines, and `(a, b)` are a line of the report each.
 use dvd_trial::{Held, hold};
 
 const FAULTS: &str = "
@@ -31,7 +36,7 @@ run: recover --sectors 32 over image of 32 sectors | recorded
 output: image of 32 sectors
 reads: 1 row a call, call {207, 208, 300, 415} fails -> ReadFault, {0, 16, 16, 16} sectors: read fault
 
-# The line of a refused block goes out before its sectors, which are zeros.
+# The line of a refused block, of 64 bytes, goes out before its sectors, which are zeros.
 name: no address = layer 0: address 0 found 00000000 saved 0
 run: recover --sectors 16 over 1 block of 00
 -> Damaged: block 0 sector 030000 <no address>/damaged: 1 blocks with 16 sectors of 00
@@ -103,6 +108,7 @@ given: image of 33 sectors | recorded | wrong by 5A: block 1, bytes 0 to 160 ste
 run: recover --sectors 33 or deep --sectors 33 or survey --sectors 33 or merge --sectors 16 --captures 3 \
 or convert --sectors 33 or assemble --sectors 33 --frames 48
 each call stops it: 7 calls of 20000 bytes
+# A listed capture of such blocks without damage.
 run: recover --form listed over image of 33 sectors | recorded | convert --sectors 33 makes 113606 bytes
 each call stops it: 7 calls of 20000 bytes
 ";

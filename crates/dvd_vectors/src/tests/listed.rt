@@ -1,5 +1,8 @@
 //! Captures that state their layout: they are read as the plain and the marked captures of the same blocks, which are
 //! converted to them. One that breaks a rule, or ends where it should not, is refused by its own line.
+//! `run: A over B -> C` runs arguments A over bytes B, and C must come: status, amount of output (or all) and report
+//! (or `done`). What a line doesn't say stays. `case` has the bytes changed, `also` changes them for good. `{a, b}` are
+//! tried one by one, `[a, b]` through a group of lines, and `(a, b)` are a line of the report each.
 use dvd_trial::{Held, hold};
 
 const CAPTURES: &str = "
@@ -76,7 +79,7 @@ case: set as {01, 01, 2F, 80, 31, 01, 01, 01, 80}: place {19, 21, 22, 24, 26, 28
 given: nothing | <one block>
 case: front 32 bytes          -> Short, 0 bytes: short: block 0, 0 bytes
 case: front {31, 7, 0} bytes  -> Short, 0 bytes: short: header, {31, 7, 0} bytes
-# The header states no lawful layout.
+# The header states a layout that breaks a rule.
 given: nothing
 case: listed shape 1 zones 0 sectors {16, 17} and {0, 1} initial 0 tail 16  -> <bad header> {16, 12}
 case: listed shape 2 zones 1 sectors 16 and 17 initial 0 tail 16            -> <bad header> 16

@@ -1,6 +1,10 @@
 //! Streams that are cut off, followed by more, full of marks or of another place, and damaged blocks with marks: up to
-//! the bound all comes back. A block beyond it is named, and its frames come back whose rows are all read. Rounds of
-//! `deep` give some of these blocks back, and others not; the rounds and the lines come from another program.
+//! the bound all comes back. A block beyond it is named, and its frames come back whose rows are all read. `deep` gives
+//! some of these blocks back by at most four rounds, each a step over the rows and one over the columns; the rounds and
+//! the lines come from another program.
+//! `run: A over B -> C` runs arguments A over bytes B, and C must come: status, amount of output (or all) and report
+//! (or `done`). What a line doesn't say stays. `case` has the bytes changed, `also` changes them for good. `{a, b}` are
+//! tried one by one, `[a, b]` through a group of lines, and `(a, b)` are a line of the report each.
 use dvd_trial::{Held, hold};
 
 const STREAMS: &str = "
@@ -22,11 +26,13 @@ run: recover --sectors 16 -> <refused> address 0 found 0402FE00 saved 0/damaged:
 run: recover --sectors=16 or recover --sectors 0016 over image of 16 sectors | recorded -> Done with image of 16 sectors
 case: front 0 bytes -> Short, 0 sectors: short: block 0, 0 bytes
 # The first of two layers, read as a disk of one: the bit of the number of layers plays no part.
-given: image of 32 sectors | master --sectors 16 --sectors1 16 --shape opposite makes 2 blocks | front 1 block
+run: recover --sectors 16 \
+over image of 32 sectors | master --sectors 16 --sectors1 16 --shape opposite makes 2 blocks | front 1 block \
 -> Done with image of 16 sectors
 
-# Each row of two blocks is damaged as far as its own parity bears: in every second one five bytes are wrong, 37
-# places apart, one place further in each; in each other one ten are lost.
+# Each row of two blocks is damaged as far as its own parity corrects: in every second one five bytes are wrong, 37
+# places apart, one place further in each, on from the first place after the last; in each other one ten are lost, which
+# is to be 00 and marked.
 name: damage = wrong by 55: rows 0 to 206 step 2, bytes 0 to 148 step 37 shifted 1 | marked | \
 lost: rows 1 to 207 step 2, bytes 0 to 9
 run: recover --sectors 17 --form marked over image of 17 sectors | recorded | <damage> -> Done with image of 17 sectors
@@ -67,7 +73,7 @@ run: recover --sectors 16 --form marked
 case: doubtful by [5A, 00]: rows 0 to 19, bytes 0 to 10 shifted 9 -> <refused> rows 20 saved 14/damaged: 1 blocks
 
 # Chains of seventeen rows, of which each needs the one before: ten places of each row are those of its chain, and one
-# is a place of the chain before.
+# is a place of the chain before, or in the first chain place 40 or 41. No column gets more than sixteen by these.
 given: image of 16 sectors | recorded | wrong by 55: <places> | marked | \
 doubtful by 5A: rows 0 to 16, bytes 0 to 9; rows 0 to 16 step 2, byte 40; rows 1 to 15 step 2, byte 41; \
 rows 17 to 33, bytes 10 to 19; rows 17 to 26, byte 0 shifted 1; rows 27 to 33, byte 0 shifted 1

@@ -1,5 +1,8 @@
-//! Runs over a few sectors or none: frames, CD-ROM sectors, the largest disks and words that ask for nothing. Where
+//! Runs over a few sectors or none: frames, CD-ROM sectors, the largest disks and invalid arguments. Where
 //! `=>` is written, the same comes in pieces of 1, 7, 2047 and 40,000 bytes.
+//! `run: A over B -> C` runs arguments A over bytes B, and C must come: status, amount of output (or all) and report
+//! (or `done`). What a line doesn't say stays. `case` has the bytes changed, `also` changes them for good. `{a, b}` are
+//! tried one by one, `[a, b]` through a group of lines, and `(a, b)` are a line of the report each.
 use dvd_trial::{Held, hold};
 
 const ENDS: &str = "
@@ -62,7 +65,7 @@ run: assemble --sectors 16384 --frames 4294967295 -> Short, 0 bytes: short: fram
 run: convert --sectors 8191744
 -> Short: short: block 0, 5 bytes with hex 445644454343000200000000007CFF0000000000000000000000001000000000
 
-# Words that ask for nothing, over sectors, and over nothing.
+# Invalid arguments, over sectors, and over nothing.
 name: frames = frames --first 030000 --sectors
 given: [17 sectors of 00, nothing]
 run: no words or Frames --first 030000 --sectors 1 or --help or --version or frames \
