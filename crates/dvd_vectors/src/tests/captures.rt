@@ -1,12 +1,12 @@
 //! Captures put together: scattered recording frames put in order, whatever their order, with repeats, gaps and strays;
 //! and captures of one disk joined, where what one has lost another gives, and where two differ neither is believed.
 //! `run: A over B -> C` runs arguments A over bytes B, and C must come: status, amount of output (or all) and report
-//! (or `done`). What a line doesn't say stays. `case` has the bytes changed, `also` changes them for good. `{a, b}` are
-//! tried one by one, `[a, b]` through a group of lines, and `(a, b)` are a line of the report each.
+//! (or `done`). Arguments, bytes and output stay till others are named. `case` has bytes changed, `also` for good. Of
+//! `{a, b}` each is tried, of `[a, b]` each in all of a group; `/` ends a line, and `(a, b)` are in one line each.
 use dvd_trial::{Held, hold};
 
 const CAPTURES: &str = "
-# Two blocks whose frames come in reverse order, and the first one again: what was mastered, without a mark.
+# Two blocks whose frames come in reverse order, and the last to come again: what was mastered, without a mark.
 run: assemble --sectors 17 --frames 33 over image of 17 sectors | recorded | reversed frames | repeat the last 1 frame
 -> Done: placed 33 strays 0/done with image of 17 sectors | recorded | marked
 run: recover --sectors 17 --form marked
@@ -38,7 +38,7 @@ case: known as 01: block {0, 1}, row 0, byte 0  -> Done with 1 block of 00 | mar
 case: lost: block 0, row 0, byte 0              -> Done with 1 block of 00 | marked
 
 # Of capture c of sixteen there is one byte, c + 1, at place 11c of row 12c of the block. Else nothing is known. The
-# two spare bits of the marks, after those of the 182 bytes of a row, are set too. First what comes of them.
+# two spare bits of the marks, after those of the 182 bytes of a row, are set too, and come out clear. First what comes.
 name: bytes = known as {01, 02, 03, 04, 05, 06, 07, 08, 09, 0A, 0B, 0C, 0D, 0E, 0F, 10}:
 given: 1 block of 00 | marked | lost: block 0
 also: <bytes> row {0 to 180 step 12}, byte {0 to 165 step 11}
@@ -51,8 +51,9 @@ run: merge --sectors 17 --captures 16 --form marked -> Short: short: block 1, 0 
 run: merge --sectors 16 --captures 16 --form marked -> Done
 case: cut off 1 byte                                -> Short, 0 bytes: short: block 0, 682239 bytes
 
-# Two captures of a recording of sixteen blocks, one after the other. Each of them is refused; the lines were
-# computed by another program, which draws the same. Their join is not.
+# Two captures of a recording of sixteen blocks, one after the other. About a sixth of the rows are drawn to be lost,
+# and each other has a wrong byte. Each capture is refused; the lines were computed by another program, which draws the
+# same; of the output the length is compared. Their join is whole.
 name: line = block (0 to 15) sector 0300(0, 1, 2, 3, 4, 5, 6, 7, 8, 9, A, B, C, D, E, F)0 layer 0:
 given: image of 256 sectors | recorded | repeat the last 16 blocks | marked | drawn from 2
 run: recover --sectors 256 --form marked

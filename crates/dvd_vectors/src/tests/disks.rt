@@ -3,8 +3,8 @@
 //! them, and what it answers where there is none. Where `=>` is written, the same comes in pieces of 1, 7, 2047 and
 //! 40,000 bytes.
 //! `run: A over B -> C` runs arguments A over bytes B, and C must come: status, amount of output (or all) and report
-//! (or `done`). What a line doesn't say stays. `case` has the bytes changed, `also` changes them for good. `{a, b}` are
-//! tried one by one, `[a, b]` through a group of lines, and `(a, b)` are a line of the report each.
+//! (or `done`). Arguments, bytes and output stay till others are named. `case` has bytes changed, `also` for good. Of
+//! `{a, b}` each is tried, of `[a, b]` each in all of a group; `/` ends a line, and `(a, b)` are in one line each.
 use dvd_trial::{Held, hold};
 
 const DISKS: &str = "
@@ -46,8 +46,8 @@ at 258 blocks: 2C030020323D00000000000002004408; at 274 blocks: 2DFCFEE0DC130000
 at 290 blocks: 21FCFFE05F9D0102030405ABE6DD909D; at 292 blocks: 29FD0000528600000000000001002204
 
 # A disk of one layer with all of its zones. The first control block comes after 32 others, and nothing after it is
-# read: 33 blocks of eight calls. Where a call fails, what came before it is left, and nothing is tried again. Each of
-# the 192 control blocks gives the format where those before it are destroyed.
+# read: 33 blocks of eight calls. Where a call fails, the status is its fault, what came before is left, and nothing is
+# tried again. Each of the 192 control blocks gives the format where those before it are destroyed.
 name: none = NoControl, 0 bytes: no control block
 run: info over image of 16 sectors | master --sectors 16 --zones all makes 273 blocks
 => Done; read: 33 blocks with lines \

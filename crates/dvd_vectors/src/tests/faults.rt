@@ -1,15 +1,15 @@
 //! How much exactly is left after a fault, and which lines of the report. Then every command over a small input, in
 //! pieces of 1, 7, 2047 and 40,000 bytes where `=>` is written, and with calls that fail; those of `survey`, `info` and
 //! `exercise` are in `survey`, `disks` and `workers`. `all fail in turn` names all calls of a stream: where one fails,
-//! the status is its fault, and a prefix of the output and of the lines is left. `each call stops it` names how many
-//! calls of each stream, and of its flushes, fail one after the other, over the input and over that without its last
-//! byte: no stream is then asked for anything more but the report, for the closing line; after a fault of the report
-//! not even that. A report is cut off at `..`, and calls are counted from 0. Each digest was computed by another
-//! program. Other hostile inputs are in `recover` (blocks cut off, followed by more, marked in every byte, or of
-//! another place or disk) and `loops` (an output that keeps nothing).
+//! the status is its fault, and a prefix of the output and of the lines is left, and the line of the fault. `each call
+//! stops it` names how many calls of each stream, and of its flushes, fail one after the other, over the input and over
+//! that without its last byte: the status is the fault, and no stream is then asked for anything more but the report,
+//! for the closing line; after a fault of the report not even that. A report is cut off at `..`, and calls are counted
+//! from 0. Each digest was computed by another program. Other hostile inputs are in `recover` (blocks cut off, followed
+//! by more, marked in every byte, or of another place or disk) and `loops` (an output that keeps nothing).
 //! `run: A over B -> C` runs arguments A over bytes B, and C must come: status, amount of output (or all) and report
-//! (or `done`). What a line doesn't say stays. `case` has the bytes changed, `also` changes them for good. `{a, b}` are
-//! tried one by one, `[a, b]` through a group of lines, and `(a, b)` are a line of the report each.
+//! (or `done`). Arguments, bytes and output stay till others are named. `case` has bytes changed, `also` for good. Of
+//! `{a, b}` each is tried, of `[a, b]` each in all of a group; `/` ends a line, and `(a, b)` are in one line each.
 use dvd_trial::{Held, hold};
 
 const FAULTS: &str = "
@@ -103,7 +103,7 @@ run: assemble --sectors 16 --frames 32
 case: from 8 frames      => Done: placed 16 strays 16/done with given | front 1 block | marked
 all fail in turn: 33 reads of 5000 bytes, 9 writes of 5000 bytes, 4 reports of 7 bytes
 
-# The second of three blocks is beyond the bound.
+# In the second of three blocks eleven bytes of each row are wrong, which is beyond the bound.
 given: image of 33 sectors | recorded | wrong by 5A: block 1, bytes 0 to 160 step 16
 run: recover --sectors 33 or deep --sectors 33 or survey --sectors 33 or merge --sectors 16 --captures 3 \
 or convert --sectors 33 or assemble --sectors 33 --frames 48

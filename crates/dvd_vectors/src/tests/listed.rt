@@ -1,8 +1,8 @@
 //! Captures that state their layout: they are read as the plain and the marked captures of the same blocks, which are
 //! converted to them. One that breaks a rule, or ends where it should not, is refused by its own line.
 //! `run: A over B -> C` runs arguments A over bytes B, and C must come: status, amount of output (or all) and report
-//! (or `done`). What a line doesn't say stays. `case` has the bytes changed, `also` changes them for good. `{a, b}` are
-//! tried one by one, `[a, b]` through a group of lines, and `(a, b)` are a line of the report each.
+//! (or `done`). Arguments, bytes and output stay till others are named. `case` has bytes changed, `also` for good. Of
+//! `{a, b}` each is tried, of `[a, b]` each in all of a group; `/` ends a line, and `(a, b)` are in one line each.
 use dvd_trial::{Held, hold};
 
 const CAPTURES: &str = "
