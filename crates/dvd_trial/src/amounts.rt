@@ -2,8 +2,7 @@
 //! A text may have any number, so sums and products are checked or stop at the largest number: nothing overflows.
 use std::alloc::Global;
 
-/// The bytes of a row, of one with 23 bytes of marks, a bit for each byte, and of a block of 208 rows without marks.
-/// They are here since the crate depends on none that has them.
+/// The bytes of a row, of one with marks, a bit for each, and of a block of 208 plain rows: no crate below has them.
 pub const ROW_BYTES: usize = 182;
 
 pub const MARKED_ROW_BYTES: usize = 205;
@@ -20,8 +19,7 @@ pub fn number(text: &str) -> Option<usize> {
     text.parse::<usize>().ok()
 }
 
-/// How many bytes, as `1 block` or `2 blocks and 5 bytes`. A frame is a recording frame here, a sixteenth of a block,
-/// and a sector is one of a DVD.
+/// How many bytes, as `1 block` or `2 blocks and 5 bytes`. A frame is a recording frame here, a sixteenth of a block.
 pub fn amount(text: &str) -> Option<usize> {
     let mut bytes: usize = 0;
     for term in text.split(" and ") {
@@ -29,7 +27,7 @@ pub fn amount(text: &str) -> Option<usize> {
         let size = match unit.strip_suffix('s').unwrap_or(unit) {
             "byte" => 1,
             "row" => ROW_BYTES,
-            "sector" => 2048,
+            "sector" => 2048, // of a DVD
             "frame" => BLOCK_BYTES / 16,
             "block" => BLOCK_BYTES,
             "marked block" => 208 * MARKED_ROW_BYTES,
@@ -40,22 +38,33 @@ pub fn amount(text: &str) -> Option<usize> {
     Some(bytes)
 }
 
-/// Numbers, as `3`, `0 to 15` or `0 to 206 step 2`. Both ends belong to them, as far as the steps meet the last.
-/// Refused are a last number below the first, and the step 0, by which nothing can be divided.
-pub fn numbers(alloc: Global, text: &str) -> Option<Vec<usize>> {
-    let (range, step) = text.split_once(" step ").unwrap_or((text, "1"));
-    let (first, last) = range.split_once(" to ").unwrap_or((range, range));
-    let (first, last, step) = (number(first)?, number(last)?, number(step)?);
-    let mut numbers = Vec::new(alloc);
-    for k in 0..=last.checked_sub(first)?.checked_div(step)? {
-        let number = first.saturating_add(k.saturating_mul(step));
-        numbers.push(number).ok()?;
-    }
-    Some(numbers)
+/// Numbers at equal distances: so many of them from the first on.
+#[derive(Clone, Copy)]
+pub struct Numbers {
+    pub first: usize,
+    pub step: usize,
+    pub count: usize,
 }
 
-/// The text with what its lines `name: NAME = TEXT` say in place of each `<NAME>`. A name that no line gives stays, and
-/// is refused where the text is used.
+impl Numbers {
+    /// As `3`, `0 to 15` or `0 to 206 step 2`. Both ends belong to them, as far as the steps meet the last. Refused are
+    /// a last number below the first, and the step 0, by which nothing can be divided.
+    pub fn new(text: &str) -> Option<Numbers> {
+        let (range, step) = text.split_once(" step ").unwrap_or((text, "1"));
+        let (first, last) = range.split_once(" to ").unwrap_or((range, range));
+        let (first, step) = (number(first)?, number(step)?);
+        let steps = number(last)?.checked_sub(first)?.checked_div(step)?;
+        let count = steps.saturating_add(1);
+        Some(Numbers { first, step, count })
+    }
+
+    /// Number `k` of them, from 0 on.
+    pub fn get(&self, k: usize) -> usize {
+        self.first.saturating_add(k.saturating_mul(self.step))
+    }
+}
+
+/// The text with what its lines `name: NAME = TEXT` say in place of each `<NAME>`. Other names stay, to be refused.
 pub fn put_names(alloc: Global, text: &str) -> Option<String> {
     let mut spelt = String::from_str(alloc, text).ok()?;
     for line in text.lines() {
@@ -68,38 +77,48 @@ pub fn put_names(alloc: Global, text: &str) -> Option<String> {
     Some(spelt)
 }
 
-/// The cases of a text: with the first value of each list in these brackets, with the second one, and so on. There are
-/// as many as the longest list has values, or one without brackets. A shorter list fails at its end, so that no case is
-/// passed over.
-pub fn cases(alloc: Global, text: &str, brackets: [char; 2]) -> Option<Vec<String>> {
-    let mut cases = Vec::new(alloc);
-    let (first, count) = spell(alloc, text, brackets, 0)?;
-    cases.push(first).ok()?;
-    for k in 1..count {
-        cases.push(spell(alloc, text, brackets, k)?.0).ok()?;
+/// The cases of the parts of a text, with this between two of them: groups, or the lines of a report with `/`, since a
+/// text is read line by line, so that it can't have their ends itself. No line that is wanted has a `/`.
+pub fn cases_of(alloc: Global, text: &str, between: &str, brackets: [char; 2]) -> Option<String> {
+    let mut cases = String::new(alloc);
+    for part in text.split(between) {
+        add_cases(part, brackets, &mut cases)?;
     }
     Some(cases)
 }
 
-// The text with the value of case `k` in place of all values, and how many cases there are. The values are words with
-// commas between them, or numbers, as `{0 to 15}`. What has no comma is numbers: a single word in brackets has nothing
-// to choose from, and is refused.
-fn spell(alloc: Global, text: &str, brackets: [char; 2], k: usize) -> Option<(String, usize)> {
-    let (mut spelt, mut count) = (String::new(alloc), 1);
-    let mut parts = text.split(brackets[0]);
-    spelt.push_str(parts.next()?).ok()?;
-    for part in parts {
-        let (values, rest) = part.split_once(brackets[1])?;
-        if values.contains(", ") {
-            spelt.push_str(values.split(", ").nth(k)?).ok()?;
-            count = values.split(", ").count().max(count);
-        } else {
-            let numbers = numbers(alloc, values)?;
-            let number = format!(in alloc; "{}", numbers.get(k)?).ok()?;
-            spelt.push_str(number.as_str()).ok()?;
-            count = numbers.len().max(count);
-        }
-        spelt.push_str(rest).ok()?;
+/// Adds the cases of a text, each with a line end: with the first value of each list in these brackets, the second, and
+/// so on: as many as the longest list has, or one. A shorter list fails at its end, so that no case is passed over.
+pub fn add_cases(text: &str, brackets: [char; 2], cases: &mut String) -> Option<()> {
+    for k in 1..add_case(text, brackets, 0, cases)? {
+        add_case(text, brackets, k, cases)?;
     }
-    Some((spelt, count))
+    Some(())
+}
+
+// Adds case `k`, and answers how many cases there are.
+fn add_case(text: &str, brackets: [char; 2], k: usize, cases: &mut String) -> Option<usize> {
+    let mut parts = text.split(brackets[0]);
+    cases.push_str(parts.next()?).ok()?;
+    let mut count = 1;
+    for part in parts {
+        let (list, rest) = part.split_once(brackets[1])?;
+        count = add_value(list, k, cases)?.max(count);
+        cases.push_str(rest).ok()?;
+    }
+    cases.push('\n').ok()?;
+    Some(count)
+}
+
+// Adds value `k` of a list, and answers how many it has: words with commas between them, or numbers, as `0 to 15`. What
+// has no comma is numbers: a single word in brackets has nothing to choose from, and is refused.
+fn add_value(list: &str, k: usize, cases: &mut String) -> Option<usize> {
+    if list.contains(", ") {
+        cases.push_str(list.split(", ").nth(k)?).ok()?;
+        return Some(list.split(", ").count());
+    }
+    let numbers = Numbers::new(list)?;
+    is(k < numbers.count)?;
+    write!(cases, "{}", numbers.get(k)).ok()?;
+    Some(numbers.count)
 }

@@ -1,6 +1,7 @@
 //! A gate that counts the calls of each piece, and may let two workers wait for each other. A pass over a block is
 //! shared out in pieces, one for each worker, and asks the gate at the start of each. No contract says that two threads
 //! run at the same time, so a test has to see it: two pieces that wait for each other both go on only where it is so.
+use crate::amounts::number;
 use dvd_par::Gate;
 use std::sync::atomic::AtomicU64;
 use std::sync::atomic::Ordering::SeqCst;
@@ -14,12 +15,25 @@ pub struct Counting {
     // many pieces: the highest digit counts faults, which are the calls of piece 15 and any above, and waits that ran
     // out. After one nobody waits, since the run has failed then.
     digits: AtomicU64,
+    due: u64, // what they must be after a run
 }
 
 impl Counting {
-    pub fn new(meets: bool) -> Counting {
+    /// By `3 pieces, 2 times each` the first three pieces must be called so often, and no other: digits all alike.
+    pub fn new(text: &str, meets: bool) -> Option<Counting> {
+        let (pieces, times) = text.split_once(" pieces, ")?;
+        let times = number(times.strip_suffix(" times each")?)?;
+        let mut due: u64 = 0;
+        for _ in 0..number(pieces)?.min(15) {
+            due = due << 4 | times as u64 & 0xF;
+        }
         let digits = AtomicU64::new(0);
-        Counting { meets, digits }
+        Some(Counting { meets, digits, due })
+    }
+
+    /// Whether the pieces were called as they must be, and no wait ran out.
+    pub fn is_met(&self) -> bool {
+        self.digits.load(SeqCst) == self.due
     }
 
     // Counts a call of a piece. The order of all accesses here is the strictest one, since a test needn't be quick.
@@ -30,16 +44,6 @@ impl Counting {
     // The digit of a piece.
     fn calls(&self, piece: usize) -> u64 {
         self.digits.load(SeqCst) >> (4 * piece.min(15)) & 0xF
-    }
-
-    /// Whether each of the first `pieces` pieces was called `times` times, and no other, and no wait ran out. The
-    /// number that must be is built digit by digit, all alike.
-    pub fn has_counted(&self, pieces: usize, times: usize) -> bool {
-        let mut digits: u64 = 0;
-        for _ in 0..pieces.min(15) {
-            digits = digits << 4 | times as u64 & 0xF;
-        }
-        self.digits.load(SeqCst) == digits
     }
 }
 

@@ -31,11 +31,9 @@
 //! -> Done, 2 blocks; digest: ..; read: ..   of the output, and how much of the input was read; also `last line: ..`
 //! -> Done; at 2 blocks and 12 bytes: ACA6   these bytes are there in the output
 //! reads: 700 bytes a call, call 2 fails     the next run reads so; `writes`, `reports`
-//! all fail in turn: 9 reads of 5000 bytes, 4 reports of 7 bytes
-//!                                           these are all calls of a stream; where one fails, each in turn, all that
-//!                                           was done before it is left
-//! each call stops it: 7 calls of 700 bytes  where one of the first 7 fails, of any stream or its flushes, nothing is
-//!                                           tried again
+//! all fail in turn: 9 reads of 5000 bytes   these are all calls of a stream, others after a comma; where one fails,
+//!                                           each in turn, all that was done before it is left
+//! each call stops it: 7 calls of 700 bytes  where one of the first 7 of any stream or flush fails, none is tried again
 //! alike: A = B over ..                      arguments A leave over the case what arguments B leave over these bytes
 //! pieces ask: 3 pieces, 2 times each        a run asks its gate so; `pieces meet`: its workers work at the same time
 //! ```
@@ -58,8 +56,7 @@
 //! reversed frames, woven                    frames in reverse order; marked blocks of both halves in turn
 //! drawn from 2                              about a sixth of the rows are lost, and each other has a wrong byte
 //! wrong by 55: block 1, rows 0 to 19, bytes 0 to 9 shifted 9; row 192
-//!                                           these bits are wrong, in each of the rows nine bytes further, and in all
-//!                                           of row 192
+//!                                           these bits, in each of the rows nine bytes further, and in all of row 192
 //! lost: row 3, doubtful by 5A: ..           a zero with a mark; these bits are wrong, with a mark
 //! known as 01: .., set as 01: .., zero: ..  this byte is there, in the marked form without a mark; zeros are there
 //! zero: sectors 0 to 1                      of an image; `cdsectors`: those of a CD-ROM; `places`: all bytes
@@ -79,5 +76,5 @@ mod trial; // the lines of a text
 mod turns; // runs in which something fails in turn
 
 pub use failure::{Held, fails, hold};
-pub use runs::words_of;
+pub use runs::{Runtime, words_of};
 pub use trial::bytes_of;

@@ -10,8 +10,13 @@ use dvd_ports::{StdSink, StdSource};
 use dvd_top::{Status, run};
 use std::alloc::Global;
 use std::cell::Cell;
-use std::io::{self, Error, ErrorKind, Read, Write};
+use std::io::{self, ErrorKind, Read, Write};
 use std::thread::Threads;
+
+/// What runs need of a runtime, besides memory: threads.
+pub trait Runtime: Threads + Sync {}
+
+impl<R: Threads + Sync> Runtime for R {}
 
 /// The kinds of calls, of which one may fail.
 #[derive(Clone, Copy, PartialEq, Eq)]
@@ -23,20 +28,21 @@ pub enum StreamCall {
     FlushReport,
 }
 
-/// The most bytes of a call of any stream, and the one call that fails: its kind, and how many such come before it.
+/// The most bytes of a call; the one call that fails: its kind, and how many such come before; where the input ends.
 #[derive(Clone, Copy)]
 pub struct Plan {
     pub step: usize,
     pub call: StreamCall,
     pub count: usize,
+    pub end: usize,
 }
 
-/// No call fails: no run makes so many. A run leaves the same by any step; by a long one it is quick. 40,000 bytes are
-/// more than a block as it is recorded.
+/// No call fails: no run makes so many. A run leaves the same by any step; by one longer than a block it is quick.
 pub const SOUND: Plan = Plan {
     step: 40_000,
     call: StreamCall::Read,
     count: usize::MAX,
+    end: usize::MAX,
 };
 
 /// What the streams of a run have in common: cells, since each of three streams notes what it sees.
@@ -54,28 +60,22 @@ impl Watch {
     // A call comes, and fails where the plan says so. After one that stopped, any is late but those of the report; and
     // those are late after a fault of its own. Else they may be of the closing line, of which the beginning is counted.
     fn begin(&self, call: StreamCall, begins_line: bool) -> io::Result<()> {
-        let is_report = matches!(call, Report | FlushReport);
         match self.stopped.get() {
-            None => {}
             Some(Report | FlushReport) => self.is_late.set(true),
-            Some(_) if !is_report => self.is_late.set(true),
+            Some(_) if !matches!(call, Report | FlushReport) => self.is_late.set(true),
             Some(_) if begins_line => self.lines.set(self.lines.get().saturating_add(1)),
-            Some(_) => {}
+            _ => {}
         }
         if self.plan.call == call {
             let coming = self.coming.get();
             self.coming.set(coming.wrapping_sub(1));
             if coming == 0 {
-                return Err(self.stop(call));
+                self.stopped.set(Some(call));
+                // The kind of error after which readers and writers commonly try again, which a run must not.
+                return Err(ErrorKind::Interrupted.into());
             }
         }
         Ok(())
-    }
-
-    // The kind of error after which readers and writers commonly try again, which a run must not.
-    fn stop(&self, call: StreamCall) -> Error {
-        self.stopped.set(Some(call));
-        ErrorKind::Interrupted.into()
     }
 }
 
@@ -90,14 +90,15 @@ impl<'a> Read for Input<'a> {
     fn read(&mut self, buf: &mut [u8]) -> io::Result<usize> {
         self.watch.begin(StreamCall::Read, false)?;
         let count = self.watch.plan.step.min(buf.len().min(self.rest.len()));
-        // The end of the input, as a source never asks with an empty buffer. It is no error, so this one is let go.
+        // The end of the input, as a source never asks with an empty buffer.
         if count == 0 {
-            let _ = self.watch.stop(StreamCall::Read);
+            self.watch.stopped.set(Some(StreamCall::Read));
         }
         buf[..count].copy_from_slice(&self.rest[..count]);
         self.rest = &self.rest[count..];
-        let read = self.watch.read.get();
-        self.watch.read.set(read.saturating_add(count));
+        self.watch
+            .read
+            .set(self.watch.read.get().saturating_add(count));
         Ok(count)
     }
 }
@@ -133,40 +134,39 @@ pub struct Left {
     pub status: Status,
     pub output: Vec<u8>,
     pub report: Vec<u8>,
-    /// What its streams saw.
-    pub watch: Watch,
+    pub watch: Watch, // what its streams saw
 }
 
 impl Left {
     /// Nothing yet. `is_same` accepts no `NoMemory`, so that this is like no result.
     pub fn new(alloc: Global, plan: Plan) -> Left {
-        let watch = Watch {
-            plan,
-            coming: Cell::new(plan.count),
-            read: Cell::new(0),
-            stopped: Cell::new(None),
-            is_late: Cell::new(false),
-            lines: Cell::new(0),
-        };
         Left {
             status: Status::NoMemory,
             output: Vec::new(alloc),
             report: Vec::new(alloc),
-            watch,
+            watch: Watch {
+                plan,
+                coming: Cell::new(plan.count),
+                read: Cell::new(0),
+                stopped: Cell::new(None),
+                is_late: Cell::new(false),
+                lines: Cell::new(0),
+            },
         }
     }
 
     /// Whether both runs had memory and left the same. How much they read isn't compared.
     pub fn is_same(&self, other: &Left) -> Option<()> {
-        is(self.status == other.status && self.status != Status::NoMemory)?;
-        is(self.output.as_slice() == other.output.as_slice())?;
-        is(self.report.as_slice() == other.report.as_slice())
+        let is_end = self.status == other.status && self.status != Status::NoMemory;
+        let is_output = self.output.as_slice() == other.output.as_slice();
+        is(is_end && is_output && self.report.as_slice() == other.report.as_slice())
     }
 }
 
-/// The words of this text as arguments; `no words` are none, since an empty text says that no run is named yet. No
-/// argument of a test has a blank in it.
+/// The words of this text as arguments; `no words` are none, since an empty text says that no run is named yet: there
+/// is no such run. No argument of a test has a blank in it.
 pub fn words_of(alloc: Global, text: &str) -> Option<Vec<String>> {
+    is(!text.is_empty())?;
     let mut words = Vec::new(alloc);
     let text = if text == "no words" { "" } else { text };
     for word in text.split_whitespace() {
@@ -179,24 +179,24 @@ pub fn words_of(alloc: Global, text: &str) -> Option<Vec<String>> {
 /// each run of each text tests that: nothing but the closing line came after a call that stopped. Lines are counted and
 /// not calls, since a line may go in many; none at all is right too, as after a fault of the report. What a run leaves
 /// is handed over by the caller, so that it is there to be printed where something was.
-pub fn run_over<R: AllocGlobal + Threads + Sync, G: Gate>(
-    rt: &R,
-    gate: &G,
+pub fn run_over(
+    rt: &impl Runtime,
+    gate: &impl Gate,
     text: &str,
     bytes: &[u8],
     plan: Plan,
     left: &mut Left,
 ) -> Option<()> {
-    let alloc = rt.alloc();
+    let alloc = *left.output.allocator();
     let words = words_of(alloc, text)?;
     *left = Left::new(alloc, plan);
     let watch = &left.watch;
-    let input = Input { watch, rest: bytes };
+    let rest = &bytes[..plan.end.min(bytes.len())];
+    let source = &mut StdSource::new(Input { watch, rest });
     let (calls, held) = ([StreamCall::Write, Flush], &mut left.output);
     let output = Output { watch, calls, held };
     let (calls, held) = ([Report, FlushReport], &mut left.report);
     let report = Output { watch, calls, held };
-    let source = &mut StdSource::new(input);
     let (sink, lines) = (&mut StdSink::new(output), &mut StdSink::new(report));
     left.status = run(rt, alloc, &words, gate, source, sink, lines);
     is(!left.watch.is_late.get() && left.watch.lines.get() <= 1)

@@ -3,55 +3,51 @@
 use crate::amounts::{amount, is, number};
 use crate::gate::Counting;
 use crate::runs::StreamCall::{self, Flush, FlushReport, Read, Report, Write};
-use crate::runs::{Left, Plan, SOUND, run_over};
+use crate::runs::{Left, Plan, Runtime, SOUND};
 use crate::trial::TrialState;
 use dvd_par::OpenGate;
 use dvd_top::Status;
-use std::thread::Threads;
+use std::mem::swap;
 
-impl<'a, R: AllocGlobal + Threads + Sync> TrialState<'a, R> {
-    /// `700 bytes a call`, which `, call 2 fails` may follow: what the streams of the next run do. Calls are counted
-    /// from 0. The verb names the kind of the call that fails; so many bytes a call are for all streams. Without a
-    /// failing call none fails, as in `SOUND`.
+impl TrialState {
+    /// `700 bytes a call`, which `, call 2 fails` may follow: what the streams of the next run do. The verb names the
+    /// kind of the call that fails, counted from 0; so many bytes a call are for all streams. Without it none fails.
     pub fn set_plan(&mut self, verb: &str, text: &str) -> Option<()> {
         let (step, count) = match text.split_once(" a call, call ") {
             Some((step, count)) => (step, number(count.strip_suffix(" fails")?)?),
             None => (text.strip_suffix(" a call")?, SOUND.count),
         };
-        let (step, call) = (amount(step)?, call_of(verb)?);
-        self.plan = Plan { step, call, count };
+        self.plan = plan_of(step, verb, count)?;
         Some(())
     }
 
     /// `9 reads of 5000 bytes, 16 writes of 700 bytes`: these are all calls of a stream, and where one of them fails,
     /// all that was done before it is left. Last the call after these is to fail, which doesn't come: so the runs leave
     /// the same, and the number of calls is exact. Where one fails only the first arguments are run.
-    pub fn fail_in_turn(&mut self, text: &str) -> Option<()> {
+    pub fn fail_in_turn(&mut self, rt: &impl Runtime, text: &str) -> Option<()> {
         for part in text.split(", ") {
             let (calls, part) = part.split_once(' ')?;
             let (call, step) = part.split_once(" of ")?;
-            let (calls, call, step) = (number(calls)?, call_of(call)?, amount(step)?);
-            for count in 0..calls {
-                self.go(0, Plan { step, call, count })?;
-                match call {
-                    Read => self.leaves_prefix(call, &self.over_what_it_read()?)?,
-                    _ => self.leaves_prefix(call, &self.kept)?,
-                }
+            let after_all = plan_of(step, call, number(calls)?)?;
+            for count in 0..after_all.count {
+                self.fail_once(rt, Plan { count, ..after_all })?;
             }
-            let count = calls;
-            self.stays(0, Plan { step, call, count })?;
+            self.stays(rt, 0, after_all)?;
         }
         Some(())
     }
 
-    // What a run over only the bytes that the last one read leaves. It ends by its input's end.
-    fn over_what_it_read(&self) -> Option<Left> {
-        let words = self.words.split(" or ").next()?;
-        let read = self.case.get(..self.left.watch.read.get())?;
-        let mut left = Left::new(self.alloc, SOUND);
-        run_over(self.rt, &OpenGate, words, read, SOUND, &mut left)?;
-        is(left.status != Status::NoMemory)?;
-        Some(left)
+    // After a failed read all is there that a run over only the bytes read leaves, which ends by its input's end.
+    fn fail_once(&mut self, rt: &impl Runtime, plan: Plan) -> Option<()> {
+        self.go(rt, &OpenGate, 0, plan)?;
+        if plan.call != Read {
+            return self.leaves_prefix(plan.call, &self.kept);
+        }
+        let end = self.left.watch.read.get();
+        swap(&mut self.left, &mut self.other);
+        self.go(rt, &OpenGate, 0, Plan { end, ..SOUND })?;
+        swap(&mut self.left, &mut self.other);
+        self.leaves_prefix(Read, &self.other)
     }
 
     // It left a prefix of what this whole run left, with the fault in place of the rest of the lines; where the report
@@ -73,22 +69,21 @@ impl<'a, R: AllocGlobal + Threads + Sync> TrialState<'a, R> {
             Write => !rest.is_empty() && (lines.is_empty() || lines.ends_with(b"\n")),
             _ => is_all || !is_last_line(rest),
         };
-        is(is_right && left.status == status && whole.output.starts_with(&left.output))
+        let is_end = left.status == status && whole.status != Status::NoMemory;
+        is(is_right && is_end && whole.output.starts_with(&left.output))
     }
 
-    /// `7 calls of 700 bytes`: nothing is tried again where one of the first 7 calls of a stream or of its flushes
-    /// fails, or the input ends before its last byte; `run_over` tests that. A run that isn't done has to have a reason
-    /// for it: a call that failed, or the end of the input.
-    pub fn stop_in_turn(&mut self, text: &str) -> Option<()> {
+    /// `7 calls of 700 bytes`: nothing is tried again where one of the first 7 of a stream or its flushes fails, or the
+    /// input ends before its last byte, as `run_over` tests. A run that isn't done has to have one of these reasons.
+    pub fn stop_in_turn(&mut self, rt: &impl Runtime, text: &str) -> Option<()> {
         let (calls, step) = text.split_once(" calls of ")?;
-        let (calls, step) = (number(calls)?, amount(step)?);
-        for length in [self.case.len(), self.case.len().saturating_sub(1)] {
-            let bytes = self.case.get(..length)?;
-            for words in self.words.split(" or ") {
-                for count in 0..calls {
+        let plan = plan_of(step, "reads", number(calls)?)?;
+        for end in [SOUND.end, self.case.len().saturating_sub(1)] {
+            for k in 0..self.words.split(" or ").count() {
+                for count in 0..plan.count {
                     for call in [Read, Write, Flush, Report, FlushReport] {
-                        let plan = Plan { step, call, count };
-                        run_over(self.rt, &OpenGate, words, bytes, plan, &mut self.left)?;
+                        let plan = Plan { count, end, ..plan };
+                        self.go(rt, &OpenGate, k, Plan { call, ..plan })?;
                         let has_stopped = self.left.watch.stopped.get().is_some();
                         is(has_stopped || self.left.status == Status::Done)?;
                     }
@@ -100,31 +95,31 @@ impl<'a, R: AllocGlobal + Threads + Sync> TrialState<'a, R> {
 
     /// `3 pieces, 2 times each`: each of the runs asks its gate so often for these pieces, and for no other. Where two
     /// of them meet, they do in one of five runs: a run in which a worker begins too late is tried again. Five is any.
-    pub fn ask(&mut self, text: &str, meets: bool) -> Option<()> {
-        let (pieces, times) = text.split_once(" pieces, ")?;
-        let (pieces, times) = (number(pieces)?, number(times.strip_suffix(" times each")?)?);
-        for words in self.words.split(" or ") {
-            let mut has_counted = false;
+    pub fn ask(&mut self, rt: &impl Runtime, text: &str, meets: bool) -> Option<()> {
+        for k in 0..self.words.split(" or ").count() {
+            let mut is_met = false;
             for _ in 0..if meets { 5 } else { 1 } {
-                let gate = Counting::new(meets);
-                run_over(self.rt, &gate, words, &self.case, SOUND, &mut self.left)?;
-                let is_done = self.left.status == Status::Done;
-                has_counted = has_counted || is_done && gate.has_counted(pieces, times);
+                let gate = Counting::new(text, meets)?;
+                self.go(rt, &gate, k, SOUND)?;
+                is_met = is_met || self.left.status == Status::Done && gate.is_met();
             }
-            is(has_counted)?;
+            is(is_met)?;
         }
         Some(())
     }
 }
 
-// The kind of call that a text names, one or many. Flushes have no name, as only `stop_in_turn` lets them fail.
-fn call_of(name: &str) -> Option<StreamCall> {
-    match name.strip_suffix('s').unwrap_or(name) {
-        "read" => Some(Read),
-        "write" => Some(Write),
-        "report" => Some(Report),
-        _ => None,
-    }
+// The plan by which a call of this kind fails. Flushes have no name, as only `stop_in_turn` lets them fail.
+fn plan_of(step: &str, call: &str, count: usize) -> Option<Plan> {
+    let mut plan = Plan { count, ..SOUND };
+    plan.step = amount(step)?;
+    plan.call = match call.strip_suffix('s').unwrap_or(call) {
+        "read" => Read,
+        "write" => Write,
+        "report" => Report,
+        _ => return None,
+    };
+    Some(plan)
 }
 
 // Whether this is a line or the end of one, of which a write may have taken the beginning, with nothing after it.
