@@ -19,7 +19,7 @@ pub fn number(text: &str) -> Option<usize> {
     text.parse::<usize>().ok()
 }
 
-/// How many bytes, as `1 block` or `2 blocks and 5 bytes`. A frame is a recording frame here, a sixteenth of a block.
+/// How many bytes, as `1 block` or `2 blocks and 5 bytes`.
 pub fn amount(text: &str) -> Option<usize> {
     let mut bytes: usize = 0;
     for term in text.split(" and ") {
@@ -110,8 +110,7 @@ fn add_case(text: &str, brackets: [char; 2], k: usize, cases: &mut String) -> Op
     Some(count)
 }
 
-// Adds value `k` of a list, and answers how many it has: words with commas between them, or numbers, as `0 to 15`. What
-// has no comma is numbers: a single word in brackets has nothing to choose from, and is refused.
+// Adds value `k` of a list, and answers how many it has. What has no comma is numbers: a single word is refused.
 fn add_value(list: &str, k: usize, cases: &mut String) -> Option<usize> {
     if list.contains(", ") {
         cases.push_str(list.split(", ").nth(k)?).ok()?;

@@ -75,9 +75,8 @@ fn read_place(text: &str, damage: &mut Damage) -> Option<()> {
 }
 
 // There are never more blocks than that, a marked one being longer; to go on to the last of all would only take time. A
-// row in the marked form has its marks after it. A hit without a mark is of the plain form, or of a sector. Rows are
-// hit only in bytes that are whole rows of one form; else the text is wrong. A block is recorded with a row of outer
-// parity after each twelve rows of data: row 192 + f is the last of the thirteen of recording frame f.
+// hit without a mark is of the plain form, or of a sector. Where bytes aren't whole rows of one form, rows are wrong.
+// Row 192 + f is recorded as the last of the thirteen of recording frame f.
 fn hit_places(damage: &Damage, bytes: &mut [u8]) -> Option<()> {
     let has_rows = damage.length == ROW_BYTES;
     let length = match damage.mark {
@@ -102,11 +101,10 @@ fn hit_places(damage: &Damage, bytes: &mut [u8]) -> Option<()> {
     is(!has_rows || bytes.len() % ROW_BYTES == 0 || bytes.len() % MARKED_ROW_BYTES == 0)
 }
 
-// Hits row `i` of those named. The shift grows with `i`, and not with the row's number: the first row has none. With a
-// shift, the bytes after the last one of a row are the first ones. Without one they stay as they are named: 23 bytes of
-// marks have 184 bits, and a text may name the two that no byte of the row has. It does so with `doubtful by 00` alone:
-// there the byte itself would be one of marks, and has to stay. `max` only shows that nothing is divided by 0. The high
-// bit of the first byte of marks is that of the row's first byte. Bytes that aren't there are passed over.
+// Hits row `i` of those named: the first has no shift. Without one bytes stay as they are named, since a text may name
+// the two spare bits of marks. It does so with `doubtful by 00` alone: there the byte itself would be one of marks, and
+// has to stay. `max` only shows that nothing is divided by 0. The high bit of the first byte of marks is that of the
+// row's first byte. Bytes that aren't there are passed over.
 fn hit_row(damage: &Damage, i: usize, row: &mut [u8]) {
     let (length, shift) = (damage.length, i.saturating_mul(damage.shift));
     for k in 0..damage.bytes.count.min(length) {

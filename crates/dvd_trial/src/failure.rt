@@ -23,9 +23,8 @@ pub fn fails(rt: &(impl Runtime + AllocGlobal), text: &str) -> bool {
     TrialState::new(rt.alloc()).holds(rt, text).is_none()
 }
 
-// The arguments that ran last, their result, and where the output first differs from the wanted one, if a text says
-// that: as an image, and as a capture of both forms: which of them it is isn't known here. What can't be printed is let
-// go, since nothing else can be done for it. 2,048 bytes are a sector.
+// The arguments that ran last, their result, and where the output first differs from the wanted one, if that is said:
+// as an image, and as a capture of both forms, since it isn't known here which it is. What can't be printed is let go.
 fn print(rt: &impl Eprint, trial: &TrialState) {
     let words = trial.words.split(" or ").nth(trial.last).unwrap_or("");
     let (line, left) = (trial.line.as_str(), &trial.left);

@@ -41,7 +41,6 @@ impl Counting {
         self.digits.fetch_add(1 << (4 * piece.min(15)), SeqCst);
     }
 
-    // The digit of a piece.
     fn calls(&self, piece: usize) -> u64 {
         self.digits.load(SeqCst) >> (4 * piece.min(15)) & 0xF
     }

@@ -1,5 +1,5 @@
-//! The steps by which bytes are made, as the head of `lib` lists them. Each adds bytes or changes those before it. They
-//! are made without the crates that are tested, but for what `master` and others write.
+//! The steps by which bytes are made. Each adds bytes or changes those before it. They are made without the crates that
+//! are tested, but for what `master` and others write.
 use crate::amounts::{BLOCK_BYTES, MARKED_ROW_BYTES, ROW_BYTES, amount, cases_of, is, number};
 use crate::damage::damage_bytes;
 use std::alloc::Global;
@@ -128,11 +128,9 @@ fn draw_rows(text: &str, capture: &mut [u8]) -> Option<()> {
     Some(())
 }
 
-// The listed form of docs/FORMATS.md, of `shape 0 zones 0 sectors 17 and 0 initial 0 tail 16 runs 0:2 5:1`. The header
-// has the letters and number of the form, two numbers of a byte and four of four bytes, each at its place, and zeros
-// where it has none; `nth` passes over the word before each number. After each block come the number of its runs, and
-// the first place and the length of each. All blocks have the same runs, as tests need no more; without `runs` none has
-// any. Numbers are written as they are named, so that a test can break a rule of the form.
+// The listed form of docs/FORMATS.md, of `shape 0 zones 0 sectors 17 and 0 initial 0 tail 16 runs 0:2 5:1`. Before each
+// number is a word, which `nth` passes over, and each has its place in the header. All blocks have the same runs, as
+// tests need no more. Numbers are written as they are named, so that a test can break a rule of the form.
 fn add_listed(listed: &mut Vec<u8>, bytes: &[u8], text: &str) -> Option<()> {
     let (header, runs) = text.split_once(" runs ").unwrap_or((text, ""));
     append_bytes(listed, b"DVDECC\x00\x02")?;

@@ -1,6 +1,6 @@
-//! The lines of a text: which bytes are made, which arguments are run, and what has to come. The head of `lib` lists
-//! them. Bytes are swapped and not copied where that does, since a copy needs memory and may fail. What runs nothing is
-//! kept apart from the runtime, which is handed on and is no part of the state.
+//! The lines of a text: which bytes are made, which arguments are run, and what has to come. Bytes are swapped and not
+//! copied where that does, since a copy needs memory and may fail. What runs nothing is kept apart from the runtime,
+//! which is handed on and is no part of the state.
 use crate::amounts::{add_cases, amount, cases_of, is, put_names};
 use crate::made::{append_bytes, do_step};
 use crate::runs::{Left, Plan, Runtime, SOUND, run_over};
@@ -76,9 +76,9 @@ impl TrialState {
         Some(())
     }
 
-    // Does the part before an arrow, and then runs and compares; without an arrow there is the part alone. After `->`
-    // each of the arguments runs once, after `=>` also in pieces, so many bytes a call. Any steps would do: these are
-    // the least, two shorter than a sector, and one longer than a block. Arrows come first: what must come has colons.
+    // Does the part before an arrow, and then runs and compares; without an arrow there is the part alone. Any steps
+    // would do: these are the least, two shorter than a sector, and one longer than a block. Arrows come first: what
+    // must come has colons.
     fn line_holds(&mut self, rt: &impl Runtime, line: &str) -> Option<()> {
         let in_pieces = line.contains("=>");
         let Some((part, wanted)) = line.split_once(if in_pieces { "=>" } else { "->" }) else {
@@ -106,11 +106,11 @@ impl TrialState {
                 self.words = String::from_str(self.alloc, words).ok()?;
                 self.make(rt, "given", steps)
             }
-            "alike" => self.are_alike(rt, rest),
+            "same result" => self.are_alike(rt, rest),
             "all fail in turn" => self.fail_in_turn(rt, rest),
             "each call stops it" => self.stop_in_turn(rt, rest),
-            "pieces ask" => self.ask(rt, rest, false),
-            "pieces meet" => self.ask(rt, rest, true),
+            "pieces begin" => self.ask(rt, rest, false),
+            "pieces begin together" => self.ask(rt, rest, true),
             _ => self.set_plan(verb, rest),
         }
     }
@@ -209,9 +209,8 @@ impl TrialState {
         self.stays(rt, 0, SOUND)
     }
 
-    // Whether the last run left what is wanted: status, by its name in the code, length of the output and report, and
-    // what comes after `; ` each. Only a prefix of the output need come where its length is stated; else the whole one.
-    // Any may come where no text says it. Wrong arguments or settings must have been found before anything was read.
+    // Whether the last run left what is wanted, where the status goes by its name in the code. Wrong arguments or
+    // settings must have been found before anything was read.
     fn has_all(&self, wanted: &str) -> Option<()> {
         let mut facts = wanted.split("; ");
         let ended = facts.next()?;
@@ -235,8 +234,7 @@ impl TrialState {
         is(is_output && is_end && self.left.report.as_slice() == lines.as_bytes())
     }
 
-    // Whether this holds of what the last run left: how much was read, how the output ends, its SHA-256 digest, so that
-    // a whole one is compared with what it was when the test was written, or which bytes are there in it.
+    // Whether this fact, one of those after `; `, holds of what the last run left.
     fn has(&self, fact: &str) -> Option<()> {
         let (name, rest) = fact.split_once(": ")?;
         let output = &self.left.output;

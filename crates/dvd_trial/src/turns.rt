@@ -10,8 +10,7 @@ use dvd_top::Status;
 use std::mem::swap;
 
 impl TrialState {
-    /// `700 bytes a call`, which `, call 2 fails` may follow: what the streams of the next run do. The verb names the
-    /// kind of the call that fails, counted from 0; so many bytes a call are for all streams. Without it none fails.
+    /// `reads: 700 bytes a call`, which `, call 2 fails` may follow: what the streams of the next run do.
     pub fn set_plan(&mut self, verb: &str, text: &str) -> Option<()> {
         let (step, count) = match text.split_once(" a call, call ") {
             Some((step, count)) => (step, number(count.strip_suffix(" fails")?)?),
@@ -21,9 +20,8 @@ impl TrialState {
         Some(())
     }
 
-    /// `9 reads of 5000 bytes, 16 writes of 700 bytes`: these are all calls of a stream, and where one of them fails,
-    /// all that was done before it is left. Last the call after these is to fail, which doesn't come: so the runs leave
-    /// the same, and the number of calls is exact. Where one fails only the first arguments are run.
+    /// `9 reads of 5000 bytes, 16 writes of 700 bytes`. Last the call after these is to fail, which doesn't come: so
+    /// all runs leave the same, and the number of calls is exact. Where one fails only the first arguments are run.
     pub fn fail_in_turn(&mut self, rt: &impl Runtime, text: &str) -> Option<()> {
         for part in text.split(", ") {
             let (calls, part) = part.split_once(' ')?;
@@ -73,8 +71,7 @@ impl TrialState {
         is(is_right && is_end && whole.output.starts_with(&left.output))
     }
 
-    /// `7 calls of 700 bytes`: nothing is tried again where one of the first 7 of a stream or its flushes fails, or the
-    /// input ends before its last byte, as `run_over` tests. A run that isn't done has to have one of these reasons.
+    /// `7 calls of 700 bytes`. That nothing is tried again is what `run_over` tests.
     pub fn stop_in_turn(&mut self, rt: &impl Runtime, text: &str) -> Option<()> {
         let (calls, step) = text.split_once(" calls of ")?;
         let plan = plan_of(step, "reads", number(calls)?)?;
@@ -93,8 +90,8 @@ impl TrialState {
         Some(())
     }
 
-    /// `3 pieces, 2 times each`: each of the runs asks its gate so often for these pieces, and for no other. Where two
-    /// of them meet, they do in one of five runs: a run in which a worker begins too late is tried again. Five is any.
+    /// `3 pieces, 2 times each`. Pieces that meet do so in one of five runs: a run in which a worker begins too late is
+    /// tried again. Five is any.
     pub fn ask(&mut self, rt: &impl Runtime, text: &str, meets: bool) -> Option<()> {
         for k in 0..self.words.split(" or ").count() {
             let mut is_met = false;

@@ -1,5 +1,6 @@
-//! The loops of `master` and `recover` called by themselves, over a disk of one layer with all of its zones: they
-//! record what the command does, and read it back. And a run whose output keeps nothing.
+//! The loops of `master` and `recover`, called directly and not by `run`, over a disk of one layer with all its zones:
+//! `master_loop` records the same bytes as `run` does, and `recover_loop` makes the image again of what `run` recorded.
+//! And `run` of `recover` over the same disk, into a sink that keeps nothing: it is Done, and reports `done` alone.
 ghost use Rattle.std.specs.Prelude.{◌≤◌, IfSome};
 
 use dvd_block::{Block, Piece};
@@ -11,8 +12,7 @@ use dvd_trial::{Held, bytes_of, words_of};
 use std::alloc::Global;
 use std::thread::Threads;
 
-// What the arguments ask for, where that is one worker, as without an option. The clause is what the loops require of
-// the number of workers.
+// What the arguments ask for: one worker, as none are named, else None. The loops require 1 to 16, hence the clause.
 fn asked(alloc: Global, text: &str) -> Option<Settings>
     ensures { IfSome result (λ settings. (1 ≤ settings.workers) × (settings.workers ≤ 16)) }
 {
@@ -20,7 +20,7 @@ fn asked(alloc: Global, text: &str) -> Option<Settings>
     (settings.workers == 1).then_some(settings)
 }
 
-// Whether the loop of `master` is done.
+// None unless the loop of `master` is Done.
 fn master<R: AllocGlobal + Threads + Sync>(rt: &R, image: &[u8], out: &mut MemSink) -> Option<()> {
     let settings = asked(rt.alloc(), "master --sectors 17 --zones all")?;
     let layout = settings.layout().ok()?;
@@ -32,7 +32,7 @@ fn master<R: AllocGlobal + Threads + Sync>(rt: &R, image: &[u8], out: &mut MemSi
     (end == LoopEnd::Done).then_some(())
 }
 
-// Whether the loop of `recover` is done.
+// None unless the loop of `recover` is Done.
 fn recover<R: AllocGlobal + Threads + Sync>(
     rt: &R,
     work: &mut Work,
@@ -47,8 +47,10 @@ fn recover<R: AllocGlobal + Threads + Sync>(
     (end == LoopEnd::Done).then_some(())
 }
 
-// The report is that of the run alone: the loop reports nothing of a disk without damage. An output that keeps nothing
-// changes neither the status nor the report. None is also want of memory.
+// The image has 17 drawn sectors, and the disk is what `run` records of it: 274 blocks, else None. Sinks have room for
+// the first number of bytes, by at most the second in a call. `recover_loop` and `run` append to one report, which is
+// that of `run` alone: of a disk without damage the loop reports nothing. None: a case fails, or what is read or made
+// for it, or memory is wanting. `OpenGate` lets all workers pass.
 fn all_hold<R: AllocGlobal + Threads + Sync>(rt: &R) -> Option<()> {
     let alloc = rt.alloc();
     let image = bytes_of(rt, "image of 17 sectors")?;
@@ -70,5 +72,5 @@ fn all_hold<R: AllocGlobal + Threads + Sync>(rt: &R) -> Option<()> {
 
 #[test]
 fn the_loops_record_as_the_command_does_and_read_back(rt: HostRuntime) -> Held {
-    all_hold(&rt).ok_or("a loop or the run ends otherwise, or leaves other bytes")
+    all_hold(&rt).ok_or("a loop or the run isn't Done, or leaves other bytes or another report")
 }
