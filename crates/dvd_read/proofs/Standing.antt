@@ -1,4 +1,5 @@
 -- Rows and columns that are their own answers, and blocks whose columns correct no row that was answered.
+use Rattle.std.specs.Prelude.{slice_index_or}
 use Rattle.std.proofs.Common.{◌≡◌, ◌∙◌, ℕ, zero, suc, ◌+◌, ◌<◌, ◌≤◌, ◌==◌, Bool, true, false, if◌then◌else◌, MatchOption, List, [], ◌∷◌, length, map, get_or, replicate, slice_index, refl, sym, ap, subst, arith, Some, None, is_none, is_some}
 use Rattle.std.specs.declared.option.Option.{Option}
 use Rattle.std.proofs.lemmas.Bool.Decides.{nat_tests}
@@ -13,7 +14,7 @@ use Rattle.rs_decode.specs.declared.errors.Fix.{Fix}
 use Rattle.rs_decode.proofs.Counting.{IsNear-from_counts, error_count-self}
 use Rattle.rs_decode.proofs.NearSearch.{codeword-vanishes}
 use Rattle.coding.specs.Product.{column, line}
-use Rattle.dvd_capture.specs.Answers.{IsAnswer, IsFix, marks_line}
+use Rattle.dvd_capture.specs.Answers.{AreAnswers, IsAnswer, IsFix, marks_line}
 use Rattle.dvd_capture.specs.Rule.{HasAnswers}
 use Rattle.dvd_capture.specs.Works.{answers_of_work, marks_of_work, rows_of, stage_of}
 use Rattle.dvd_capture.specs.declared.work.Work.{Work}
@@ -22,7 +23,7 @@ use Rattle.coding.specs.TwoPass.{failed_of, from_columns}
 use Rattle.dvd_capture.specs.declared.parts.AnswerRow.{AnswerRow}
 use Rattle.dvd_capture.specs.declared.parts.ColumnAnswer.{ColumnAnswer}
 use Rattle.dvd_capture.proofs.Columns.{from_columns-line}
-use Rattle.dvd_read.specs.Parts.{AreKeptFrom, AreRowsKept, answer_by, answer_word, answer_bytes}
+use Rattle.dvd_read.specs.Parts.{AreKeptFrom, AreRowsHeld, AreRowsKept, answer_by, answer_word, answer_bytes}
 use Rattle.dvd_read.specs.Inner.Found.{words_of_columns}
 use Rattle.dvd_read.specs.Inner.Standing.{AreCodewords}
 use Rattle.dvd_read.proofs.ColumnAnswers.{blank_column}
@@ -192,6 +193,39 @@ kept-vanish answers block i size codewords kept below clear =
     ap (vanishes_at_all 10) (kept i blank_answer below answered)
     ∙ codeword-vanishes 182 10 (get_or answers i blank_answer).bytes (answered-codeword answers i blank_answer below codewords answered)
 
+-- ---- failed rows, into whose answers the block's bytes are written
+
+-- no fix of the answers is another one
+abbrev pub HaveFixes : List AnswerRow → List AnswerRow → Type 0
+HaveFixes old new = (i : ℕ) (default : AnswerRow) → (slice_index_or new i default).fix ≡ (slice_index_or old i default).fix
+
+-- the rows that were answered have their bytes
+abbrev pub HaveBytes : List AnswerRow → List AnswerRow → Type 0
+HaveBytes old new = (i : ℕ) (default : AnswerRow) → is_some (slice_index_or old i default).fix ≡ true → (slice_index_or new i default).bytes ≡ (slice_index_or old i default).bytes
+
+-- the bytes of a failed row's answer don't count
+filled-answer : (row word other : List ℕ) (marks : List Bool) (fix : Option Fix) → (is_some fix ≡ true → other ≡ word)
+    → MatchOption fix (near_of 182 10 row marks ≡ None) (IsFix row marks word) → MatchOption fix (near_of 182 10 row marks ≡ None) (IsFix row marks other)
+filled-answer row word other marks None same said = said
+filled-answer row word other marks (Some fix) same said = subst (λ (w : List ℕ). IsFix row marks w fix) (sym (same refl)) said
+
+-- so the answers are those of the first pass still
+pub filled-answers : (received : List (List ℕ)) (marks : List (List Bool)) (old new : List AnswerRow) → HaveFixes old new → HaveBytes old new
+    → AreAnswers received marks old → AreAnswers received marks new
+filled-answers received marks old new fixes bytes said i d below =
+    subst (λ (f : Option Fix). MatchOption f (near_of 182 10 (line received i) (marks_line marks i) ≡ None) (IsFix (line received i) (marks_line marks i) (get_or new i d).bytes)) (sym (fixes i d))
+    (filled-answer (line received i) (get_or old i d).bytes (get_or new i d).bytes (marks_line marks i) (get_or old i d).fix (bytes i d) (said i d below))
+
+-- and those of all rows hold the block
+pub rows-held : (old new : List AnswerRow) (block : List (List ℕ)) → AreRowsKept old block → HaveBytes old new
+    → ((i : ℕ) (default : AnswerRow) → i < 208 → is_some (slice_index_or old i default).fix ≡ false → (slice_index_or new i default).bytes ≡ line block i)
+    → AreRowsHeld new block
+rows-held old new block kept bytes failed i d below = by (is_some (get_or old i d).fix) refl
+  where
+    by : (is : Bool) → is_some (get_or old i d).fix ≡ is → line block i ≡ (get_or new i d).bytes
+    by true is = kept i d below is ∙ sym (bytes i d is)
+    by false is = sym (failed i d below is)
+
 -- what is counted of row i of a captured block
 pub row-counted : (work : Work) (i : ℕ) (row : List ℕ) (default : AnswerRow) (block : List (List ℕ)) (count : ℕ) → i < 208 → HasAnswers (stage_of work)
     → row ≡ line (rows_of work) i
@@ -203,3 +237,8 @@ row-counted work i row default block count below stage is counted =
     let width : length marks ≡ 182 = marks-width work.marks i below in
     let said : IsAnswer row marks (get_or answers i default) = subst (λ (r : List ℕ). IsAnswer r marks (get_or answers i default)) (sym is) (work.answered stage i default below) in
     counted marks width said ∙ ap (λ (r : List ℕ). distance r (line block i)) is
+
+-- row i of the answers' bytes, where these hold the block
+pub held-line : (answers : List AnswerRow) (block : List (List ℕ)) (i : ℕ) → length answers ≡ 208 → AreRowsHeld answers block → i < 208 → line (answer_bytes answers) i ≡ line block i
+held-line answers block i size held below =
+    get_or-map bytes answers i blank_answer [] (omega arith) ∙ sym (held i blank_answer below)

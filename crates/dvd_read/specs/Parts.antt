@@ -46,3 +46,7 @@ pub record AreKeptFrom (answers : List AnswerRow) (start : ℕ) (piece : List Co
 abbrev pub AreRowsKept : List AnswerRow → List (List ℕ) → Type 0
 AreRowsKept answers block =
     (i : ℕ) (default : AnswerRow) → i < 208 → is_some (slice_index_or answers i default).fix ≡ true → line block i ≡ (slice_index_or answers i default).bytes
+
+-- a block has the bytes of all rows' answers, of failed rows too
+abbrev pub AreRowsHeld : List AnswerRow → List (List ℕ) → Type 0
+AreRowsHeld answers block = (i : ℕ) (default : AnswerRow) → i < 208 → line block i ≡ (slice_index_or answers i default).bytes

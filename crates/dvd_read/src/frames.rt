@@ -7,7 +7,7 @@ ghost use Rattle.coding.specs.TwoPass.{from_columns};
 ghost use Rattle.dvd_capture.specs.Works.{answers_of_work, block_of, rows_of, stage_of};
 ghost use Rattle.dvd_layout.specs.Place.{HasNumbers};
 ghost use Rattle.dvd_read.specs.Calls.{AreFramesChecked};
-ghost use Rattle.dvd_read.specs.Parts.{AreRowsKept};
+ghost use Rattle.dvd_read.specs.Parts.{AreRowsHeld, answer_bytes};
 ghost use Rattle.coding.specs.Found.{block_differences};
 ghost use Rattle.dvd_read.specs.Inner.Found.{words_of_columns};
 ghost use Rattle.dvd_decoding.specs.Frames.{cause_in, fault_at, frame_of, frames_cause, main_at, main_data};
@@ -39,7 +39,7 @@ pub fn sectors(work: &mut Work, plan: &BlockPlan) -> Result<(), Cause>
 pub(crate) enum FrameSource {
     /// In what was received, where the block is that.
     Received,
-    /// In the rows' answers, where those are the block's, and the failed rows in the columns.
+    /// In the rows' answers, where these hold the block.
     Answers,
     /// In the columns.
     Columns,
@@ -47,8 +47,7 @@ pub(crate) enum FrameSource {
 
 impl FrameSource {
     /// Where the rows of a block are read of which so many bytes were fixed, and whose answered rows are kept or may
-    /// not be. A block of which no byte was fixed is what was received: also its failed rows, which `Answers` would
-    /// read column by column. So this is asked first.
+    /// not be.
     pub(crate) fn of(bytes: u32, are_kept: bool) -> FrameSource
         ensures received { result ≡ FrameSource.Received → bytes ≡ 0 }
         ensures answers { result ≡ FrameSource.Answers → IsTrue are_kept }
@@ -73,7 +72,7 @@ pub(crate) fn sectors_of_block(
     requires stage { stage_of work.old ≡ Stage.Fixed }
     requires numbers { HasNumbers plan.now }
     requires received { source ≡ FrameSource.Received → block_differences (rows_of work.old) (block_of work.old) ≡ 0 }
-    requires answers { source ≡ FrameSource.Answers → AreRowsKept (answers_of_work work.old) (block_of work.old) }
+    requires answers { source ≡ FrameSource.Answers → AreRowsHeld (answers_of_work work.old) (block_of work.old) }
     ensures { AreFramesChecked work.old work.new plan.now result }
 {
     let answers = work.answers.rows();
@@ -103,7 +102,7 @@ fn read_frames(
     requires rows { length answers.now ≡ 208 }
     requires columns { length columns.now ≡ 182 }
     requires received { source ≡ FrameSource.Received → block_differences (received_rows received.now) (from_columns (words_of_columns columns.now)) ≡ 0 }
-    requires answers { source ≡ FrameSource.Answers → AreRowsKept answers.now (from_columns (words_of_columns columns.now)) }
+    requires answers { source ≡ FrameSource.Answers → AreRowsHeld answers.now (from_columns (words_of_columns columns.now)) }
     requires numbers { HasNumbers plan.now }
     ensures refused { IfErr result (λ cause. frames_cause (from_columns (words_of_columns columns.now)) plan.now ≡ Some cause) }
     ensures right { OnOk result (frames_cause (from_columns (words_of_columns columns.now)) plan.now ≡ None) }
@@ -176,53 +175,25 @@ fn get_frame(
     requires rows { length answers.now ≡ 208 }
     requires columns { length columns.now ≡ 182 }
     requires received { source ≡ FrameSource.Received → block_differences (received_rows received.now) (from_columns (words_of_columns columns.now)) ≡ 0 }
-    requires answers { source ≡ FrameSource.Answers → AreRowsKept answers.now (from_columns (words_of_columns columns.now)) }
+    requires answers { source ≡ FrameSource.Answers → AreRowsHeld answers.now (from_columns (words_of_columns columns.now)) }
     requires frame { f < 16 }
     ensures { frame.new ≡ frame_of (from_columns (words_of_columns columns.now)) f }
 {
     match source {
         FrameSource::Received => copy_received(received.rows(), f, frame),
-        FrameSource::Answers => copy_kept(answers, columns, f, frame),
+        FrameSource::Answers => copy_held(answers, f, frame),
         FrameSource::Columns => copy_frame(columns, f, frame),
     }
 }
 
-// Writes frame `f` of the rows' answers, which are the block's, and of its failed rows.
-fn copy_kept(answers: &[AnswerRow], columns: &[ColumnAnswer], f: usize, frame: &mut [u8; 2064])
+// Writes frame `f` of the rows' answers, which hold the block.
+fn copy_held(answers: &[AnswerRow], f: usize, frame: &mut [u8; 2064])
     requires rows { length answers.now ≡ 208 }
-    requires columns { length columns.now ≡ 182 }
-    requires kept { AreRowsKept answers.now (from_columns (words_of_columns columns.now)) }
     requires frame { f < 16 }
-    ensures { frame.new ≡ frame_of (from_columns (words_of_columns columns.now)) f }
+    ensures { frame.new ≡ frame_of (answer_bytes answers.now) f }
 {
     for q in 0..12usize {
-        put_kept_row(answers, columns, 12 * f + q, 172 * q, frame);
-    }
-}
-
-// Writes the first 172 bytes of row `i` after what comes before them. A failed row has no answer of its own: the
-// columns alone have its bytes.
-fn put_kept_row(
-    answers: &[AnswerRow],
-    columns: &[ColumnAnswer],
-    i: usize,
-    at: usize,
-    frame: &mut [u8; 2064],
-)
-    requires rows { length answers.now ≡ 208 }
-    requires columns { length columns.now ≡ 182 }
-    requires kept { AreRowsKept answers.now (from_columns (words_of_columns columns.now)) }
-    requires row { i < 208 }
-    requires at { at + 172 ≤ 2064 }
-    ensures { take (at + 172) frame.new ≡ take at frame.old ++ take 172 (line (from_columns (words_of_columns columns.now)) i) }
-{
-    let answer = &answers[i];
-    if answer.fix.is_some() {
-        put_data(frame, at, &answer.bytes);
-    } else {
-        let mut row = [0; 182];
-        read_row(columns, i, &mut row);
-        put_data(frame, at, &row);
+        put_data(frame, 172 * q, &answers[12 * f + q].bytes);
     }
 }
 

@@ -17,7 +17,7 @@ ghost use Rattle.dvd_capture.specs.Kept.{KeepsReceived};
 ghost use Rattle.dvd_read.specs.Calls.{AreColumnsAnswered, AreBothAnswered, IsDecoded};
 ghost use Rattle.dvd_decoding.specs.Causes.{two_pass_cause};
 ghost use Rattle.coding.specs.Found.{block_differences, block_found};
-ghost use Rattle.dvd_read.specs.Parts.{AreAnswersFrom, AreColumnsFrom, AreKeptFrom, AreRowsKept, answer_word};
+ghost use Rattle.dvd_read.specs.Parts.{AreAnswersFrom, AreColumnsFrom, AreKeptFrom, AreRowsHeld, AreRowsKept, answer_word};
 ghost use Rattle.dvd_read.specs.Inner.Found.{words_of_columns};
 ghost use Rattle.dvd_read.specs.Inner.Standing.{AreCodewords};
 
@@ -93,8 +93,9 @@ pub fn few_failed(answers: &[AnswerRow]) -> Option<[bool; 208]>
 /// Sets the stage of a block whose rows and columns are answered, as `two_pass` does: the block of these columns must
 /// have codewords in all its rows. Where the columns correct no row that was answered, these rows are codewords and
 /// need no test.
-/// It is public for those who answer the pieces of both passes by several workers. All buffers stay. `are_kept` may be
-/// `false` of any block: then all rows are tested, which takes more time and gives the same answer.
+/// It is public for those who answer the pieces of both passes by several workers. All buffers stay, but that the
+/// answers of failed rows then hold the block's bytes where rows are kept. `are_kept` may be `false` of any block: then
+/// all rows are tested, which takes more time and gives the same answer.
 pub fn end_passes(work: &mut Work, are_kept: bool) -> Result<Fixed, Cause>
     requires answers { AreAnswersFrom (rows_of work.old) (marks_of_work work.old) 0 (answers_of_work work.old) }
     requires columns { marked (failed_of (map answer_word (answers_of_work work.old))) ≤ 16
@@ -103,9 +104,15 @@ pub fn end_passes(work: &mut Work, are_kept: bool) -> Result<Fixed, Cause>
 
     ensures decoded { IsDecoded work.old work.new result }
     ensures rows { IsTrue are_kept → AreRowsKept (answers_of_work work.new) (block_of work.new) }
+    ensures held { IsTrue are_kept → OnOk result (AreRowsHeld (answers_of_work work.new) (block_of work.new)) }
 {
     match find_block(work, are_kept) {
         Ok(failed_rows) => {
+            if are_kept {
+                // At this stage nothing is said of the answers.
+                work.set_stage(Stage::Fetched);
+                fill_failed(work.answers.rows_mut(), work.columns.all());
+            }
             // The stage first: it ensures that the answers are those of the received rows, by which bytes are counted.
             work.set_stage(Stage::Fixed);
             let bytes = count_fixed(work, are_kept);
@@ -187,10 +194,28 @@ fn find_wrong(columns: &[ColumnAnswer], are_kept: bool) -> Option<u16>
     if are_kept { None } else { first_wrong(columns) }
 }
 
+// Writes into the answer of each failed row its row of the columns' block. A column has one byte of a row, so a row is
+// gathered from all of them: once, for all that read it after this. The others stay.
+fn fill_failed(answers: &mut [AnswerRow], columns: &[ColumnAnswer])
+    requires columns { length columns.now ≡ 182 }
+    ensures size { length answers.new ≡ length answers.old }
+    ensures fixes { (i : ℕ) (default : AnswerRow) → (slice_index_or answers.new i default).fix ≡ (slice_index_or answers.old i default).fix }
+    ensures answered { (i : ℕ) (default : AnswerRow) → is_some (slice_index_or answers.old i default).fix ≡ true
+        → (slice_index_or answers.new i default).bytes ≡ (slice_index_or answers.old i default).bytes }
+    ensures failed { (i : ℕ) (default : AnswerRow) → i < length answers.old → i < 208 → is_some (slice_index_or answers.old i default).fix ≡ false
+        → (slice_index_or answers.new i default).bytes ≡ line (from_columns (words_of_columns columns.now)) i }
+{
+    for i in 0..answers.len().min(208) {
+        if answers[i].fix.is_none() {
+            read_row(columns, i, &mut answers[i].bytes);
+        }
+    }
+}
+
 // In how many places the block differs from what was received. Where the rows are kept, most needn't be compared.
 fn count_fixed(work: &Work, are_kept: bool) -> u32
     requires stage { HasAnswers (stage_of work.now) }
-    requires kept { IsTrue are_kept → AreRowsKept (answers_of_work work.now) (block_of work.now) }
+    requires held { IsTrue are_kept → AreRowsHeld (answers_of_work work.now) (block_of work.now) }
     ensures { result ≡ block_differences (rows_of work.now) (block_of work.now) }
 {
     if are_kept {
@@ -200,46 +225,31 @@ fn count_fixed(work: &Work, are_kept: bool) -> u32
     }
 }
 
-// The same where the rows that were answered are those of the block. So their own counts do, and only failed rows and
-// rows with marks are compared. Each count is below 65,536, so that the sum of 208 has room in 32 bits.
+// The same where the answers of all rows hold the block. So the counts of those that were answered do, and only failed
+// rows and rows with marks are compared. Each count is below 65,536, so that the sum of 208 has room in 32 bits.
 fn count_corrections(work: &Work) -> u32
     requires stage { HasAnswers (stage_of work.now) }
-    requires kept { AreRowsKept (answers_of_work work.now) (block_of work.now) }
+    requires held { AreRowsHeld (answers_of_work work.now) (block_of work.now) }
     ensures { result ≡ block_differences (rows_of work.now) (block_of work.now) }
 {
     let answers = work.answers.rows();
-    let columns = work.columns.all();
     let mut count = 0;
     for i in 0..208usize {
-        count += row_corrections(work.received.row(i), &answers[i], columns, i);
+        count += row_corrections(work.received.row(i), &answers[i]);
     }
     count
 }
 
-// In how many places row `i` of the block differs from what was received: where nothing was marked, at its errors. A
-// mark on a right byte is no correction, so rows with marks are compared. `erased` says whether there are any, so the
-// marks are named by the clause alone.
-fn row_corrections(
-    received: &[u8; 182],
-    answer: &AnswerRow,
-    columns: &[ColumnAnswer],
-    i: usize,
-) -> u32
-    requires columns { length columns.now ≡ 182 }
-    requires row { i < 208 }
-    requires kept { is_some answer.now.fix ≡ true → line (from_columns (words_of_columns columns.now)) i ≡ answer.now.bytes }
-    ensures count { (marks : List Bool) → length marks ≡ 182 → IsAnswer received.now marks answer.now
-        → result ≡ distance received.now (line (from_columns (words_of_columns columns.now)) i) }
+// In how many places the bytes of a row's answer differ from what was received: where nothing was marked, at its
+// errors. A mark on a right byte is no correction, so rows with marks are compared, and failed rows. `erased` says
+// whether there are any marks, so these are named by the clause alone.
+fn row_corrections(received: &[u8; 182], answer: &AnswerRow) -> u32
+    ensures count { (marks : List Bool) → length marks ≡ 182 → IsAnswer received.now marks answer.now → result ≡ distance received.now answer.now.bytes }
     ensures most { result < 65536 }
 {
     match answer.fix {
         Some(fix) if fix.erased == 0 => u32::from(fix.errors),
-        Some(_) => row_differences(received, &answer.bytes),
-        None => {
-            let mut row = [0; 182];
-            read_row(columns, i, &mut row);
-            row_differences(received, &row)
-        }
+        _ => row_differences(received, &answer.bytes),
     }
 }
 

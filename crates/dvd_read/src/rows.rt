@@ -53,7 +53,8 @@ pub fn answer_rows(
     requires { start + length piece.old ≤ 208 }
     ensures { AreAnswersFrom (received_rows received.now) (marks_rows marks.now) start piece.new }
 {
-    // Room for all groups, so that it is set to zeros once.
+    // The words of a group as three thirds of 85 places each, from which values are found: room for all groups, so that
+    // it is set to zeros once.
     let mut thirds = [[u8x32::splat(0); 3]; 85];
     for group in 0..piece.len().div_ceil(32) {
         let at = 32 * group;

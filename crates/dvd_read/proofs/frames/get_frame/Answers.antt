@@ -10,7 +10,9 @@ use Rattle.dvd_capture.proofs.WorkParts.{rows-height}
 use Rattle.dvd_decoding.specs.Frames.{frame_of}
 use Rattle.dvd_read.specs.Inner.Found.{words_of_columns}
 use Rattle.dvd_read.proofs.Differences.{rows-same}
+use Rattle.dvd_read.specs.Parts.{answer_bytes}
 use Rattle.dvd_read.proofs.FrameFaults.{frames-same}
+use Rattle.dvd_read.proofs.Standing.{held-line}
 use Rattle.dvd_read.proofs.frames.get_frame.Goals as goal
 
 pub returns-in-Received : goal.returns-in-Received
@@ -27,3 +29,10 @@ returns-in-Received c =
     ∙ length-map c.args.columns.now (λ (column : ColumnAnswer). column.bytes) ∙ c.requires.columns in
     rows-same rows (from_columns words) i (c.requires.received c.in-Received.is) (omega (arith, height, c.requires.frame))
     (omega (arith, length-from_columns words, c.requires.frame)) (sym (ap (λ (l : List (List ℕ)). length (line l i)) c.rows.ensures.rows) ∙ c.copy_received.ensures.widths q below ∙ sym width))
+
+pub returns-in-Answers : goal.returns-in-Answers
+returns-in-Answers c =
+    let block : List (List ℕ) = from_columns (words_of_columns c.args.columns.now) in
+    c.copy_held.ensures
+    ∙ frames-same (answer_bytes c.args.answers.now) block c.args.f
+    (λ q below. held-line c.args.answers.now block (12 * c.args.f + q) c.requires.rows (c.requires.answers c.in-Answers.is) (omega (arith, c.requires.frame)))

@@ -1,6 +1,7 @@
 -- The proof of `count_corrections` in src/passes.rt.
 use Rattle.std.proofs.Common.{◌≡◌, ◌∙◌, ℕ, List, ap, length, take, sym, arith}
 use Rattle.std.proofs.lemmas.List.{take_all}
+use Rattle.coding.specs.Distance.{distance}
 use Rattle.coding.specs.Found.{block_differences}
 use Rattle.dvd_capture.proofs.Columns.{length-from_columns}
 use Rattle.dvd_capture.proofs.WorkParts.{rows-height}
@@ -20,12 +21,13 @@ loop-i-preserved c =
     let block : List (List ℕ) = block_of c.args.work.now in
     let i : ℕ = c.loop-i.i in
     let size : length rows ≡ 208 = rows-height c.args.work.now.received in
-    let counted = rw (c.rows-answers.ensures.rows, c.all-columns.ensures.columns) at c.row_corrections-count.ensures.count in
+    let counted = rw c.rows-answers.ensures.rows at c.row_corrections-count.ensures.count in
     record {
       counted = block_differences-next rows block i c.loop-i.count c.row_corrections-count.result (omega arith)
           (omega (arith, length-from_columns (words_of_columns (column_answers c.args.work.now.columns))))
           c.loop-i.invariant.counted
-          (row-counted c.args.work.now i c.row.result.now _ block c.row_corrections-count.result (omega arith) c.requires.stage c.row.ensures counted);
+          (row-counted c.args.work.now i c.row.result.now _ block c.row_corrections-count.result (omega arith) c.requires.stage c.row.ensures
+          (λ marks width said. counted marks width said ∙ ap (distance c.row.result.now) (sym (c.requires.held i _ (omega arith)))));
       few = omega (arith, c.loop-i.invariant.few, c.row_corrections-count.ensures.most);
     }
 

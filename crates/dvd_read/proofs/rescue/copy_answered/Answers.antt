@@ -1,5 +1,5 @@
 -- The proof of `copy_answered` in src/rescue.rt.
-use Rattle.std.proofs.Common.{◌≡◌, ◌∙◌, ◌+◌, ◌*◌, ℕ, length, map, not, refl, sym, ap, arith}
+use Rattle.std.proofs.Common.{◌≡◌, ◌∙◌, ◌+◌, ◌*◌, length, map, not, refl, sym, ap, arith}
 use Rattle.std.proofs.lemmas.List.{length-map}
 use Rattle.dvd_read.specs.Parts.{answer_word}
 use Rattle.dvd_read.specs.Inner.Saved.{answered_block}
