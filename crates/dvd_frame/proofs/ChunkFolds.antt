@@ -1,20 +1,17 @@
--- Chunks of bytes that are added to those 1, 28 and 32 chunks after them and left out: what division leaves of all
--- stays.
--- What is left of bytes is a sum (left_of) over them; chunk_folded is one step, and plus_front-put, plus_front-zip2 and
--- drop-plus_front say what the operations on vectors do to the list.
-use Rattle.std.proofs.Common.{◌≡◌, ℕ, zero, suc, ◌+◌, ◌-◌, ◌*◌, ◌^◌, ◌≤◌, List, [], ◌∷◌, ◌++◌, length, take, drop, refl, sym, ◌∙◌, ap, subst, zero-add, arith}
+-- Bytes that are a quotient times a multiple of the divisor, and a rest: division leaves the same of the rest as of all.
+-- What is left of bytes is a sum (left_of) over them.
+use Rattle.std.proofs.Common.{◌≡◌, ℕ, zero, suc, ◌+◌, ◌*◌, ◌^◌, List, [], ◌∷◌, ◌++◌, length, refl, sym, ◌∙◌, ap, subst, zero-add, arith}
 use Rattle.std.specs.Prelude.{bit_xor, replicate}
 use Rattle.std.specs.Int.Bits.{xor_zero_l, xor_zero_r, xor_assoc, xor_self}
-use Rattle.std.specs.Simd.Lanes.{zip2, put_chunk}
-use Rattle.std.proofs.lemmas.List.{length-append, length-drop}
-use Rattle.std.proofs.lemmas.Simd.{length-chunk, chunk-drop}
+use Rattle.std.specs.Simd.Lanes.{zip2}
+use Rattle.std.proofs.lemmas.List.{length-append}
 use Rattle.std.proofs.lemmas.Nat.Bits.{bit_at_xor, same_from_bits}
 use Rattle.coding.specs.BitDivision.{plus_prefix}
 use Rattle.gf_field.proofs.BitDivision.{length-plus_prefix}
 use Rattle.coding.specs.Bits.{bits}
 use Rattle.dvd_frame.specs.Inner.Registers.{divided_from, byte_remainder}
 use Rattle.dvd_frame.proofs.Division.{divided_from_zero}
-use Rattle.dvd_frame.proofs.WordDivision.{remainders_sum, bits-remainders_sum, plus_prefix_within}
+use Rattle.dvd_frame.proofs.WordDivision.{remainders_sum, bits-remainders_sum}
 use Rattle.dvd_frame.proofs.ByteFolds.{byte_remainder-sum, powers_fold}
 
 -- what division leaves of bytes with m bytes of zeros after them
@@ -104,29 +101,39 @@ plus_before : (xs added : List ℕ) (p r : ℕ) → p + length added + r ≡ len
 plus_before xs added p r size =
     left_of-plus xs added 0 p r size ∙ ap (λ (n : ℕ). bit_xor (left_of 0 xs) (left_of n added)) (zero-add r)
 
--- the sum of four, in the order in which a chunk is added
-xor_order : (a b c d : ℕ) → bit_xor (bit_xor (bit_xor a b) c) d ≡ bit_xor (bit_xor (bit_xor d b) c) a
-xor_order a b c d = same_from_bits _ _ (λ i. simp bit_at_xor (omega arith))
+-- a sum of five in which three make the first
+xor_quotient : (a b c d rest : ℕ) → a ≡ bit_xor (bit_xor b c) d → bit_xor (bit_xor (bit_xor (bit_xor a rest) b) c) d ≡ rest
+xor_quotient a b c d rest is = ap (λ (x : ℕ). bit_xor (bit_xor (bit_xor (bit_xor x rest) b) c) d) is ∙ same_from_bits _ _ (λ i. simp bit_at_xor (omega arith))
 
--- a chunk is added to those 28, 32 and 1 chunks after it, and left out
-chunk_left_out : (k w m : ℕ) (chunk rest : List ℕ) → w ≡ 2 ^ k → length chunk ≡ w → length rest ≡ m + 32 * w
-    → left_of 0 (chunk ++ rest)
-    ≡ left_of 0 (plus_prefix (plus_prefix (plus_prefix rest (replicate (27 * w) 0 ++ chunk)) (replicate (31 * w) 0 ++ chunk)) chunk)
-chunk_left_out k w m chunk rest power size long =
-    let one : List ℕ = plus_prefix rest (replicate (27 * w) 0 ++ chunk) in
-    let two : List ℕ = plus_prefix one (replicate (31 * w) 0 ++ chunk) in
-    let long_one : length one ≡ length rest = length-plus_prefix rest (replicate (27 * w) 0 ++ chunk) in
-    let long_two : length two ≡ length one = length-plus_prefix one (replicate (31 * w) 0 ++ chunk) in
-    let past : 0 + length rest ≡ m + 32 * w = omega arith in
-    let first : left_of 0 one ≡ bit_xor (left_of 0 rest) (left_of (m + 4 * w) chunk) = plus_before rest chunk (27 * w) (m + 4 * w) (omega arith) in
-    let second : left_of 0 two ≡ bit_xor (left_of 0 one) (left_of m chunk) = plus_before one chunk (31 * w) m (omega arith) in
-    let third : left_of 0 (plus_prefix two chunk) ≡ bit_xor (left_of 0 two) (left_of (m + 31 * w) chunk) = plus_before two chunk 0 (m + 31 * w) (omega arith) in
-    left_of-append 0 chunk rest
-    ∙ ap (λ (i : ℕ). bit_xor (left_of i chunk) (left_of 0 rest)) past
-    ∙ ap (λ (x : ℕ). bit_xor x (left_of 0 rest))
-    (subst (λ (n : ℕ). left_of (m + 32 * n) chunk ≡ bit_xor (bit_xor (left_of (m + 31 * n) chunk) (left_of (m + 4 * n) chunk)) (left_of m chunk)) (sym power) (left_of-folds k m chunk))
-    ∙ xor_order (left_of (m + 31 * w) chunk) (left_of (m + 4 * w) chunk) (left_of m chunk) (left_of 0 rest)
-    ∙ sym (third ∙ rw (second, first) refl)
+-- Bytes that are a quotient and a rest: the quotient times the multiple of the divisor leaves nothing, so the rest leaves
+-- what all leave.
+pub rest_divided : (k w : ℕ) (bytes quotient rest : List ℕ) → w ≡ 2 ^ k → length quotient ≡ 33 * w → length rest ≡ 32 * w
+    → bytes ≡ plus_prefix (plus_prefix (plus_prefix (quotient ++ rest) (replicate w 0 ++ quotient)) (replicate (28 * w) 0 ++ quotient)) (replicate (32 * w) 0 ++ quotient)
+    → divided_from 0 rest ≡ divided_from 0 bytes
+rest_divided k w bytes quotient rest power quotient_size rest_size bytes_are =
+    let none : List ℕ = quotient ++ rest in
+    let one : List ℕ = plus_prefix none (replicate w 0 ++ quotient) in
+    let two : List ℕ = plus_prefix one (replicate (28 * w) 0 ++ quotient) in
+    let three : List ℕ = plus_prefix two (replicate (32 * w) 0 ++ quotient) in
+    let long_none : length none ≡ 65 * w = omega (arith, length-append quotient rest) in
+    let long_one : length one ≡ 65 * w = length-plus_prefix none (replicate w 0 ++ quotient) ∙ long_none in
+    let long_two : length two ≡ 65 * w = length-plus_prefix one (replicate (28 * w) 0 ++ quotient) ∙ long_one in
+    let past : 0 + length rest ≡ 0 + 32 * w = omega arith in
+    let whole : left_of 0 none ≡ bit_xor (left_of (0 + 32 * w) quotient) (left_of 0 rest) =
+    left_of-append 0 quotient rest ∙ ap (λ (i : ℕ). bit_xor (left_of i quotient) (left_of 0 rest)) past in
+    let first : left_of 0 one ≡ bit_xor (left_of 0 none) (left_of (31 * w) quotient) = plus_before none quotient w (31 * w) (omega arith) in
+    let second : left_of 0 two ≡ bit_xor (left_of 0 one) (left_of (4 * w) quotient) = plus_before one quotient (28 * w) (4 * w) (omega arith) in
+    let third : left_of 0 three ≡ bit_xor (left_of 0 two) (left_of 0 quotient) = plus_before two quotient (32 * w) 0 (omega arith) in
+    let folds : left_of (0 + 32 * w) quotient ≡ bit_xor (bit_xor (left_of (31 * w) quotient) (left_of (4 * w) quotient)) (left_of 0 quotient) =
+    subst (λ (n : ℕ). left_of (0 + 32 * n) quotient ≡ bit_xor (bit_xor (left_of (31 * n) quotient) (left_of (4 * n) quotient)) (left_of 0 quotient)) (sym power)
+    (left_of-folds k 0 quotient
+    ∙ ap (λ (n : ℕ). bit_xor (bit_xor (left_of n quotient) (left_of (0 + 4 * 2 ^ k) quotient)) (left_of 0 quotient)) (zero-add (31 * 2 ^ k))
+    ∙ ap (λ (n : ℕ). bit_xor (bit_xor (left_of (31 * 2 ^ k) quotient) (left_of n quotient)) (left_of 0 quotient)) (zero-add (4 * 2 ^ k))) in
+    same_left rest bytes
+    (sym (ap (left_of 0) bytes_are ∙ third
+    ∙ ap (λ (x : ℕ). bit_xor x (left_of 0 quotient))
+    (second ∙ ap (λ (x : ℕ). bit_xor x (left_of (4 * w) quotient)) (first ∙ ap (λ (x : ℕ). bit_xor x (left_of (31 * w) quotient)) whole))
+    ∙ xor_quotient (left_of (0 + 32 * w) quotient) (left_of (31 * w) quotient) (left_of (4 * w) quotient) (left_of 0 quotient) (left_of 0 rest) folds))
 
 -- zeros in front change nothing
 zeros_left_out : (n : ℕ) (bytes : List ℕ) → left_of 0 (replicate n 0 ++ bytes) ≡ left_of 0 bytes
@@ -144,71 +151,6 @@ plus_prefix-zip2 [] [] same = refl
 plus_prefix-zip2 [] (y ∷ ys) same = absurd (omega arith)
 plus_prefix-zip2 (x ∷ xs) [] same = absurd (omega arith)
 plus_prefix-zip2 (x ∷ xs) (y ∷ ys) same = ap (λ (l : List ℕ). bit_xor x y ∷ l) (plus_prefix-zip2 xs ys (omega arith))
-
--- a sum of vectors that is written where the first was read
-pub plus_prefix-put : (at : ℕ) (bytes added : List ℕ) → at + length added ≤ length bytes
-    → put_chunk at bytes (zip2 bit_xor (take (length added) (drop at bytes)) added) ≡ plus_prefix bytes (replicate at 0 ++ added)
-unfolding plus_prefix
-plus_prefix-put zero [] [] within = refl
-plus_prefix-put zero (x ∷ bytes) [] within = refl
-plus_prefix-put zero [] (y ∷ added) within = absurd (omega arith)
-plus_prefix-put zero (x ∷ bytes) (y ∷ added) within = ap (λ (l : List ℕ). bit_xor x y ∷ l) (plus_prefix-put zero bytes added (omega arith))
-plus_prefix-put (suc at) [] added within = absurd (omega arith)
-plus_prefix-put (suc at) (x ∷ bytes) added within =
-    ap (λ (l : List ℕ). x ∷ l) (plus_prefix-put at bytes added (omega arith))
-    ∙ ap (λ (b : ℕ). b ∷ plus_prefix bytes (replicate at 0 ++ added)) (sym (xor_zero_r x))
-
--- what is added to nothing is lost
-plus_prefix-nothing : (added : List ℕ) → plus_prefix [] added ≡ []
-unfolding plus_prefix
-plus_prefix-nothing [] = refl
-plus_prefix-nothing (y ∷ added) = refl
-
--- zeros that are added
-pub plus_prefix-replicate : (n : ℕ) (bytes : List ℕ) → plus_prefix bytes (replicate n 0) ≡ bytes
-unfolding plus_prefix
-plus_prefix-replicate zero bytes = refl
-plus_prefix-replicate (suc n) [] = refl
-plus_prefix-replicate (suc n) (x ∷ bytes) =
-    ap (λ (b : ℕ). b ∷ plus_prefix bytes (replicate n 0)) (xor_zero_r x) ∙ ap (λ (l : List ℕ). x ∷ l) (plus_prefix-replicate n bytes)
-
--- the bytes after n, once others are added p places after these
-pub drop-plus_prefix : (n p : ℕ) (bytes added : List ℕ)
-    → drop n (plus_prefix bytes (replicate (n + p) 0 ++ added)) ≡ plus_prefix (drop n bytes) (replicate p 0 ++ added)
-unfolding plus_prefix
-drop-plus_prefix zero p bytes added = (let none : 0 + p ≡ p = omega arith in ap (λ (k : ℕ). plus_prefix bytes (replicate k 0 ++ added)) none)
-drop-plus_prefix (suc n) p [] added =
-    ap (drop (suc n)) (plus_prefix-nothing (replicate (suc n + p) 0 ++ added)) ∙ sym (plus_prefix-nothing (replicate p 0 ++ added))
-drop-plus_prefix (suc n) p (x ∷ bytes) added =
-    let more : suc n + p ≡ suc (n + p) = omega arith in
-    ap (λ (k : ℕ). drop (suc n) (plus_prefix (x ∷ bytes) (replicate k 0 ++ added))) more ∙ drop-plus_prefix n p bytes added
-
--- one step at a place: the chunk there and what is carried to it are added 28 and 32 chunks after it, and carried to
--- the next
-pub chunk_folded : (k w at : ℕ) (bytes carried taken once twice : List ℕ) → w ≡ 2 ^ k → length carried ≡ w → at + 33 * w ≤ length bytes
-    → taken ≡ plus_prefix (take w (drop at bytes)) carried
-    → once ≡ plus_prefix bytes (replicate (at + 28 * w) 0 ++ taken)
-    → twice ≡ plus_prefix once (replicate (at + 32 * w) 0 ++ taken)
-    → divided_from 0 (plus_prefix (drop (at + w) twice) taken) ≡ divided_from 0 (plus_prefix (drop at bytes) carried)
-chunk_folded k w at bytes carried taken once twice power size within taken_is once_is twice_is =
-    let rest : List ℕ = drop (at + w) bytes in
-    let here : List ℕ = take w (drop at bytes) in
-    let size_here : length here ≡ w = length-chunk at w bytes (omega arith) in
-    let size_taken : length taken ≡ w = ap length taken_is ∙ length-plus_prefix here carried ∙ size_here in
-    let m : ℕ = length rest - 32 * w in
-    let long : length rest ≡ m + 32 * w = omega (arith, length-drop (at + w) bytes) in
-    let first : at + 28 * w ≡ at + w + 27 * w = omega arith in
-    let second : at + 32 * w ≡ at + w + 31 * w = omega arith in
-    let once_behind : drop (at + w) once ≡ plus_prefix rest (replicate (27 * w) 0 ++ taken) =
-    ap (drop (at + w)) (once_is ∙ ap (λ (n : ℕ). plus_prefix bytes (replicate n 0 ++ taken)) first) ∙ drop-plus_prefix (at + w) (27 * w) bytes taken in
-    let twice_behind : drop (at + w) twice ≡ plus_prefix (plus_prefix rest (replicate (27 * w) 0 ++ taken)) (replicate (31 * w) 0 ++ taken) =
-    ap (drop (at + w)) (twice_is ∙ ap (λ (n : ℕ). plus_prefix once (replicate n 0 ++ taken)) second) ∙ drop-plus_prefix (at + w) (31 * w) once taken
-    ∙ ap (λ (l : List ℕ). plus_prefix l (replicate (31 * w) 0 ++ taken)) once_behind in
-    let met : plus_prefix (drop at bytes) carried ≡ taken ++ rest =
-    ap (λ (l : List ℕ). plus_prefix l carried) (chunk-drop at w bytes) ∙ plus_prefix_within here rest carried (omega arith)
-    ∙ ap (λ (l : List ℕ). l ++ rest) (sym taken_is) in
-    same_left (plus_prefix (drop (at + w) twice) taken) (plus_prefix (drop at bytes) carried)
-    (ap (λ (l : List ℕ). left_of 0 (plus_prefix l taken)) twice_behind ∙ sym (chunk_left_out k w m taken rest power size_taken long) ∙ ap (left_of 0) (sym met))
 
 -- lists of bytes with zeros in front are divided alike
 pub zeros_divided : (n : ℕ) (bytes : List ℕ) → divided_from 0 (replicate n 0 ++ bytes) ≡ divided_from 0 bytes

@@ -12,3 +12,4 @@ pub mod Multiples
 pub mod WordDivision
 pub mod ByteFolds
 pub mod ChunkFolds
+pub mod Quotients

@@ -1,2 +1,3 @@
 -- What only the private functions of this crate promise. No public contract and no law cites these pages.
+pub mod Folding
 pub mod Registers

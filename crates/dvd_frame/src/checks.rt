@@ -13,10 +13,11 @@ ghost use Rattle.dvd_frame.specs.Inner.Registers.{divided_from};
 
 use crate::folds::fold;
 use crate::id::Id;
-use crate::parts::put;
+use crate::parts::{load, put};
 use crate::remainders::{remainder_of, remainder_of_word};
 use byteorder::{BigEndian, ByteOrder};
 use rs_code::Ied;
+use std::simd::prelude::*;
 
 /// The IED of an ID: the two bytes with which its four bytes are a codeword of 6 bytes with 2 parity bytes. It is
 /// public for the C library, as `edc` is. Its code is made anew by each call: the generator is a few products.
@@ -35,7 +36,9 @@ pub fn ied(id: Id) -> [u8; 2]
 pub fn edc(bytes: &[u8]) -> [u8; 4]
     ensures { result ≡ edc_of bytes.now }
 {
-    edc_of_parts(bytes, &[])
+    // The last 2,048 bytes of a frame before its EDC are the Main Data.
+    let (prefix, back) = bytes.split_at(bytes.len().saturating_sub(2048));
+    edc_of_parts(prefix, back)
 }
 
 /// The EDC of two lists of bytes, as if the second came after the first. A frame that is read has its first twelve
@@ -57,34 +60,34 @@ pub(crate) fn edc_of_parts(prefix: &[u8], back: &[u8]) -> [u8; 4]
 fn divide_parts(prefix: &[u8], back: &[u8]) -> u32
     ensures { divided_from result [] ≡ divided_from 0 (prefix.now ++ back.now) }
 {
-    // The bytes of a frame before its EDC are 2,060. Only longer lists are divided word by word. A shorter one, which
-    // the C library alone may have, takes the steps of a frame. The lengths are compared without a sum, which could
-    // overflow.
-    if prefix.len() <= 2080 && back.len() <= 2080 - prefix.len() {
+    // A frame has twelve bytes before its Main Data. Lists of other lengths, which the C library alone may have, are
+    // divided word by word.
+    if prefix.len() <= 32 && back.len() == 2048 {
         return folded(prefix, back);
     }
     with_bytes(with_bytes(0, prefix), back)
 }
 
-// The remainder of at most 2,080 bytes, as many as 65 chunks of 32: zeros in front of them change nothing. Each fold
-// needs 32 chunks after those that it leaves out. So the first leaves 32 chunks, which are 64 of half the size for the
-// next. After four folds by vectors 128 bytes are left to divide; a fifth would take 32 steps to spare eight words of
-// eight. A fold begins where the one before ended.
-// All is inlined: where the lengths are known, only the bytes in front are blanked.
+// The remainder of 2,048 bytes, which are 64 chunks of 32, with at most one chunk before them: zeros in front of that
+// change nothing. A fold leaves 32 chunks, which are 64 of half the size for the next, with no chunk before them. After
+// four folds by vectors 128 bytes are left to divide.
+// All is inlined: where the lengths are known, loops over them are written out, and most of the room that they fill isn't
+// set to zeros before.
 #[inline(always)]
 fn folded(prefix: &[u8], back: &[u8]) -> u32
-    requires { length prefix.now + length back.now ≤ 2080 }
+    requires prefix { length prefix.now ≤ 32 }
+    requires back { length back.now ≡ 2048 }
     ensures { divided_from result [] ≡ divided_from 0 (prefix.now ++ back.now) }
 {
-    let mut bytes = [0; 2080];
-    let middle = 2080 - back.len();
-    put(&mut bytes, middle - prefix.len(), prefix);
-    put(&mut bytes, middle, back);
-    fold::<32>(&mut bytes, 0, 33);
-    fold::<16>(&mut bytes, 1056, 32);
-    fold::<8>(&mut bytes, 1568, 32);
-    fold::<4>(&mut bytes, 1824, 32);
-    with_bytes(0, &bytes[1952..])
+    let mut first = [0; 32];
+    put(&mut first, 32 - prefix.len(), prefix);
+    let (mut whole, mut half) = ([0; 1024], [0; 512]);
+    let (mut quarter, mut last) = ([0; 256], [0; 128]);
+    fold::<32>(load(&first, 0), back, &mut [0; 1056], &mut whole);
+    fold::<16>(Simd::splat(0), &whole, &mut [0; 528], &mut half);
+    fold::<8>(Simd::splat(0), &half, &mut [0; 264], &mut quarter);
+    fold::<4>(Simd::splat(0), &quarter, &mut [0; 132], &mut last);
+    with_bytes(0, &last)
 }
 
 // The remainder of what was read so far, with these bytes more: by words of eight bytes, and the last few by

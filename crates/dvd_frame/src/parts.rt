@@ -1,5 +1,6 @@
 //! Parts of lists of bytes: written one after the other, and read as vectors.
 ghost use Rattle.std.specs.Prelude.{◌≡◌, ◌+◌, ◌≤◌, ◌++◌, length, drop, take};
+ghost use Rattle.std.specs.Simd.Lanes.{put_chunk};
 
 use std::simd::prelude::*;
 
@@ -20,4 +21,14 @@ pub(crate) fn load<const W: usize>(bytes: &[u8], at: usize) -> Simd<u8, W>
     ensures { result ≡ take W (drop at bytes.now) }
 {
     Simd::from_slice(&bytes[at..])
+}
+
+// Sets the W bytes from a place on. All others stay.
+#[inline(always)]
+pub(crate) fn store<const W: usize>(lanes: Simd<u8, W>, bytes: &mut [u8], at: usize)
+    requires { at + W ≤ length bytes.old }
+    ensures size { length bytes.new ≡ length bytes.old }
+    ensures set { bytes.new ≡ put_chunk at bytes.old lanes.entry }
+{
+    lanes.copy_to_slice(&mut bytes[at..]);
 }

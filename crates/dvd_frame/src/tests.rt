@@ -50,7 +50,7 @@ fn draw(bytes: &mut [u8]) {
     }
 }
 
-// The EDC of a frame covers 2,060 bytes, and up to 2,080 are folded.
+// The EDC of a frame covers 2,060 bytes, and lists of 2,048 to 2,080 are folded.
 #[test]
 fn edcs_of_drawn_bytes(rt: HostRuntime) {
     let mut bytes = [0; 2100];

@@ -1,7 +1,7 @@
 -- The proof of `folded` in src/checks.rt.
-use Rattle.std.proofs.Common.{◌≡◌, ℕ, ◌+◌, ◌-◌, List, [], ◌++◌, length, take, drop, refl, sym, ap, ◌∙◌, arith}
+use Rattle.std.proofs.Common.{◌≡◌, ℕ, ◌+◌, ◌-◌, List, [], ◌++◌, length, take, refl, sym, ap, ◌∙◌, arith}
 use Rattle.std.specs.Prelude.{replicate}
-use Rattle.std.proofs.lemmas.List.{append_assoc, append-nil, length-drop, take_all, take-replicate}
+use Rattle.std.proofs.lemmas.List.{append_assoc, append-nil, take-replicate}
 use Rattle.dvd_frame.specs.Inner.Registers.{divided_from}
 use Rattle.dvd_frame.proofs.ChunkFolds.{zeros_divided}
 use Rattle.dvd_frame.proofs.checks.folded.Goals as goal
@@ -10,21 +10,13 @@ pub returns : goal.returns
 returns c =
     let prefix : List ℕ = c.args.prefix.now in
     let back : List ℕ = c.args.back.now in
-    let middle : ℕ = 2080 - length back in
-    let start : ℕ = middle - length prefix in
-    let first : List ℕ = c.put.new.out in
-    let filled : List ℕ = c.put-2.new.out in
-    let end : middle + length back ≡ 2080 = omega arith in
-    let joint : start + length prefix ≡ middle = omega arith in
-    let whole : filled ≡ replicate start 0 ++ (prefix ++ back) =
-    sym (take_all 2080 filled (omega arith))
-    ∙ ap (λ (n : ℕ). take n filled) (sym end)
-    ∙ c.put-2.ensures
-    ∙ ap (λ (n : ℕ). take n first ++ back) (sym joint)
-    ∙ ap (λ (l : List ℕ). l ++ back) (c.put.ensures ∙ ap (λ (l : List ℕ). l ++ prefix) (take-replicate start 2080 0 (omega arith)))
-    ∙ append_assoc (replicate start 0) prefix back in
-    let last : List ℕ = drop 1952 c.fold-4.new.bytes in
-    c.with_bytes.ensures []
-    ∙ ap (divided_from 0) (append-nil (take 128 last) ∙ take_all 128 last (omega (arith, length-drop 1952 c.fold-4.new.bytes)))
-    ∙ c.fold-4.ensures.same 2 refl ∙ c.fold-3.ensures.same 3 refl ∙ c.fold-2.ensures.same 4 refl ∙ c.fold.ensures.same 5 refl
-    ∙ ap (divided_from 0) whole ∙ zeros_divided start (prefix ++ back)
+    let start : ℕ = 32 - length prefix in
+    let end : start + length prefix ≡ 32 = omega arith in
+    let first : c.load.result ≡ replicate start 0 ++ prefix =
+    c.load.ensures ∙ ap (λ (n : ℕ). take n c.put.new.out) (sym end) ∙ c.put.ensures ∙ ap (λ (l : List ℕ). l ++ prefix) (take-replicate start 32 0 (omega arith)) in
+    c.with_bytes.ensures [] ∙ ap (divided_from 0) (append-nil c.fold-4.new.rest)
+    ∙ c.fold-4.ensures.same 2 refl ∙ zeros_divided 4 c.fold-3.new.rest
+    ∙ c.fold-3.ensures.same 3 refl ∙ zeros_divided 8 c.fold-2.new.rest
+    ∙ c.fold-2.ensures.same 4 refl ∙ zeros_divided 16 c.fold.new.rest
+    ∙ c.fold.ensures.same 5 refl
+    ∙ ap (λ (l : List ℕ). divided_from 0 (l ++ back)) first ∙ ap (divided_from 0) (append_assoc (replicate start 0) prefix back) ∙ zeros_divided start (prefix ++ back)
