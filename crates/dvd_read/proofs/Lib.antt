@@ -16,3 +16,4 @@ pub mod SavedFrames
 pub mod SavedLaws
 pub mod HeldAnswers
 pub mod AlternatingLanes
+pub mod ParityRows

@@ -32,7 +32,7 @@ use Rattle.dvd_read.proofs.RowAnswers.{blank_answer, row_fixed}
 -- ---- a codeword
 
 -- a row of clear marks has none that is set
-marked-clear : (n : ℕ) → marked (replicate n false) ≡ 0
+pub marked-clear : (n : ℕ) → marked (replicate n false) ≡ 0
 unfolding marked
 marked-clear zero = refl
 marked-clear (suc n) = let rest = marked-clear n in omega (arith, rest)
@@ -103,7 +103,7 @@ none-corrected (x ∷ received) (y ∷ word) (false ∷ marks) size none (suc k)
 -- ---- rows that were answered
 
 -- an answer that isn't missing is its bytes
-answered-by : (fix : Option Fix) (bytes : List ℕ) → is_some fix ≡ true → answer_by fix bytes ≡ Some bytes
+pub answered-by : (fix : Option Fix) (bytes : List ℕ) → is_some fix ≡ true → answer_by fix bytes ≡ Some bytes
 answered-by None bytes answered = cc
 answered-by (Some fix) bytes answered = refl
 
@@ -120,7 +120,7 @@ failed-at answers i d within =
     ∙ ap is_none (get_or-map answer_word answers i d None within)
 
 -- a row that was answered isn't marked
-unmarked-at : (answers : List AnswerRow) (i : ℕ) (d : AnswerRow) → i < length answers → is_some (get_or answers i d).fix ≡ true
+pub unmarked-at : (answers : List AnswerRow) (i : ℕ) (d : AnswerRow) → i < length answers → is_some (get_or answers i d).fix ≡ true
     → get_or (failed_of (map answer_word answers)) i false ≡ false
 unmarked-at answers i d within answered =
     failed-at answers i d within ∙ ap is_none (answered-by (get_or answers i d).fix (get_or answers i d).bytes answered)

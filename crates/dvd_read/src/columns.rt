@@ -7,7 +7,7 @@
 //! codewords. In clauses, of the columns from `start` on: `AreOwnFrom`, they have the bytes of the rows' answers, and
 //! `AreCopied`, so far those of the rows before one; `AreColumnsFrom`, they are answered; `AreKeptFrom`, they have the
 //! bytes of the rows that didn't fail. `Completes` says that patches not noted as wrong make a column a codeword.
-ghost use Rattle.std.specs.Prelude.{◌≡◌, ℕ, ◌+◌, ◌<◌, ◌≤◌, List, IsTrue, true, false, length, map, slice_index, slice_index_or, position, not, MatchOption};
+ghost use Rattle.std.specs.Prelude.{◌≡◌, ℕ, ◌+◌, ◌<◌, ◌≤◌, List, IsTrue, true, false, is_some, length, map, slice_index, slice_index_or, position, not, MatchOption};
 ghost use Rattle.coding.specs.Field.{alpha, power};
 ghost use Rattle.coding.specs.Words.{IsCodeword, value};
 ghost use Rattle.rs_code.specs.Syndromes.{syndromes_of};
@@ -18,7 +18,8 @@ ghost use Rattle.coding.specs.Product.{column, line, place};
 ghost use Rattle.rs_decode.specs.Patches.{Completes};
 ghost use Rattle.dvd_read.specs.Parts.{AreColumnsFrom, AreKeptFrom, answer_word, column_word};
 ghost use Rattle.dvd_read.specs.Inner.Found.{AreRightFrom, IsFirstWrongRow, words_of_columns};
-ghost use Rattle.dvd_read.specs.Inner.Standing.{AreCopied, AreOwnFrom};
+ghost use Rattle.dvd_read.specs.Calls.{AreColumnsAnswered};
+ghost use Rattle.dvd_read.specs.Inner.Standing.{AreColumnsOf, AreCopied, AreOwnFrom};
 
 use crate::lanes::lane_of;
 use crate::rows::MOST_FAILED;
@@ -124,6 +125,32 @@ fn copy_rows(answers: &[AnswerRow], top: usize, start: usize, piece: &mut [Colum
     for (j, column) in piece.iter_mut().enumerate() {
         put_lanes(transposed[start - at + j], top, &mut column.bytes);
     }
+}
+
+/// Writes 32 rows, which are transposed, into all columns, from place `top` on: vector `j` has their bytes in column
+/// `j`. Rows before them stay. Also ensures the lengths of columns, which have their type.
+pub(crate) fn copy_transposed(transposed: &[u8x32; 182], top: usize, columns: &mut [ColumnAnswer])
+    requires top { top + 32 ≤ 208 }
+    requires columns { length columns.old ≡ 182 }
+    ensures size { length columns.new ≡ 182 }
+    ensures wide { (j : ℕ) (default : ColumnAnswer) → j < 182 → length (slice_index_or columns.new j default).bytes ≡ 208 }
+    ensures copied { (rows : List (List ℕ)) → ((j n : ℕ) → j < 182 → n < 32 → place transposed.now j n ≡ place rows (top + n) j)
+        → AreColumnsOf rows columns.old top → AreColumnsOf rows columns.new (top + 32) }
+{
+    for j in 0..182usize {
+        put_lanes(transposed[j], top, &mut columns[j].bytes);
+    }
+}
+
+/// Answers all columns where their bytes are copied already and no row failed. Answers whether they correct no row.
+pub(crate) fn answer_copied_columns(answers: &[AnswerRow], columns: &mut [ColumnAnswer]) -> bool
+    requires rows { length answers.now ≡ 208 }
+    requires columns { length columns.old ≡ 182 }
+    requires answered { (i : ℕ) (default : AnswerRow) → i < 208 → is_some (slice_index_or answers.now i default).fix ≡ true }
+    requires own { AreOwnFrom answers.now 0 columns.old }
+    ensures { AreColumnsAnswered answers.now columns.new result }
+{
+    answer_copied(&Po::new(), answers, &Erasures::none(), 0, columns)
 }
 
 // Writes 32 bytes of a column. Also ensures its length, which the type of the array has and a slice wouldn't.

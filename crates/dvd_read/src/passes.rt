@@ -12,19 +12,21 @@ ghost use Rattle.dvd_capture.specs.Answers.{AreAnswers, IsAnswer};
 ghost use Rattle.dvd_capture.specs.Rule.{HasAnswers, HasBlock, HasNoTwoPass};
 ghost use Rattle.coding.specs.TwoPass.{AgreesWith, answers_of, failed_of, from_columns, IsTwoPass};
 ghost use Rattle.dvd_capture.specs.Works.{answers_of_work, block_of, marks_of_work, rows_of, stage_of};
-ghost use Rattle.dvd_capture.specs.Parts.{column_answers, received_rows};
+ghost use Rattle.dvd_capture.specs.Parts.{column_answers, marks_rows, received_rows};
 ghost use Rattle.dvd_capture.specs.Kept.{KeepsReceived};
 ghost use Rattle.dvd_read.specs.Calls.{AreColumnsAnswered, AreBothAnswered, IsDecoded};
 ghost use Rattle.dvd_decoding.specs.Causes.{two_pass_cause};
 ghost use Rattle.coding.specs.Found.{block_differences, block_found};
 ghost use Rattle.dvd_read.specs.Parts.{AreAnswersFrom, AreColumnsFrom, AreKeptFrom, AreRowsHeld, AreRowsKept, answer_word};
 ghost use Rattle.dvd_read.specs.Inner.Found.{words_of_columns};
-ghost use Rattle.dvd_read.specs.Inner.Standing.{AreCodewords};
+ghost use Rattle.dvd_read.specs.Inner.Standing.{AreAnswersBefore, AreCodewords};
 
-use crate::columns::{answer_columns, first_missing, first_wrong, read_row};
+use crate::columns::{answer_columns, answer_copied_columns, first_missing, first_wrong, read_row};
 use crate::fixed::Fixed;
-use crate::rows::{MOST_FAILED, answer_rows, are_few, count_failed, mark_failed};
-use dvd_capture::parts::{AnswerRow, ColumnAnswer, Received};
+use crate::rows::{
+    MOST_FAILED, answer_rows, are_few, count_failed, mark_failed, take_data_rows, take_parity_rows,
+};
+use dvd_capture::parts::{AnswerRow, ColumnAnswer, Marks, Received};
 use dvd_capture::{Stage, Work};
 use dvd_decoding::Cause;
 use rs_code::{Pi, Po};
@@ -55,14 +57,51 @@ pub(crate) fn answer_block(work: &mut Work) -> bool
 {
     // The answers are about to be overwritten, and at this stage nothing is said of them.
     work.set_stage(Stage::Fetched);
-    answer_rows(
-        &Pi::new(),
+    answer_both(
         &work.received,
         &work.marks,
-        0,
         work.answers.rows_mut(),
-    );
-    answer_all_columns(work.answers.rows(), work.columns.all_mut())
+        work.columns.all_mut(),
+    )
+}
+
+// Answers all rows and columns, of buffers that are lent one by one. Where a block is as it was recorded, the rows of
+// outer parity aren't tested: these sixteen are codewords where all other rows are and all columns. Where it isn't, they
+// are answered as any other rows.
+fn answer_both(
+    received: &Received,
+    marks: &Marks,
+    answers: &mut [AnswerRow],
+    columns: &mut [ColumnAnswer],
+) -> bool
+    requires rows { length answers.old ≡ 208 }
+    requires columns { length columns.old ≡ 182 }
+    ensures rows { AreAnswersFrom (received_rows received.now) (marks_rows marks.now) 0 answers.new }
+    ensures columns { AreColumnsAnswered answers.new columns.new result }
+{
+    let code = Pi::new();
+    if !take_data_rows(&code, received, marks, answers, columns) {
+        return answer_all_columns(answers, columns);
+    }
+    if take_parity_rows(received, marks, answers, columns)
+        && answer_copied_columns(answers, columns)
+        && first_missing(columns).is_none()
+    {
+        return true;
+    }
+    answer_parity_rows(&code, received, marks, answers);
+    answer_all_columns(answers, columns)
+}
+
+// Answers the sixteen rows of outer parity, whatever their answers were. The others stay.
+fn answer_parity_rows(code: &Pi, received: &Received, marks: &Marks, answers: &mut [AnswerRow])
+    requires size { length answers.old ≡ 208 }
+    requires rows { AreAnswersBefore (received_rows received.now) (marks_rows marks.now) answers.old 192 }
+    ensures size { length answers.new ≡ 208 }
+    ensures rows { AreAnswersFrom (received_rows received.now) (marks_rows marks.now) 0 answers.new }
+{
+    let (_, parity) = answers.split_at_mut(192);
+    answer_rows(code, received, marks, 192, parity);
 }
 
 // The second pass, where no more rows failed than it can correct. Answers whether it corrects no row that was answered.

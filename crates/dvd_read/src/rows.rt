@@ -5,7 +5,7 @@
 //! costs time and no answer. In clauses `IsAnswer` says that a row is answered so, by its bytes and its marks.
 //! The ten syndromes of one row are a list with room for 32, as decoders of codes of any length read them. A lane of
 //! `any_of` is 0 exactly where that lane of each vector is: so one vector says which of 32 rows are codewords.
-ghost use Rattle.std.specs.Prelude.{◌≡◌, ℕ, ◌+◌, ◌<◌, ◌≤◌, ◌↔◌, IsTrue, false, length, map, replicate};
+ghost use Rattle.std.specs.Prelude.{◌≡◌, ℕ, ◌+◌, ◌<◌, ◌≤◌, ◌↔◌, IsTrue, false, length, map, replicate, slice_index_or, EachIndex};
 ghost use Rattle.coding.specs.Field.{alpha, power};
 ghost use Rattle.coding.specs.Words.{value};
 ghost use Rattle.rs_code.specs.Syndromes.{syndromes_of};
@@ -14,13 +14,16 @@ ghost use Rattle.dvd_capture.specs.Answers.{IsAnswer, marks_line};
 ghost use Rattle.dvd_capture.specs.Parts.{marks_rows, received_rows};
 ghost use Rattle.coding.specs.TwoPass.{failed_of};
 ghost use Rattle.dvd_read.specs.Parts.{AreAnswersFrom, answer_word};
+ghost use Rattle.dvd_read.specs.Inner.Standing.{AreAnswersBefore, AreColumnsOf, AreOwnFrom, AreAsReceivedBefore, AreAsReceivedFrom, IsAsReceived, top_of};
+ghost use Rattle.coding.specs.Product.{line, place};
 
+use crate::columns::copy_transposed;
 use crate::lanes::lane_of;
 use arrayvec::ArrayVec;
-use dvd_capture::parts::{AnswerRow, Marks, Received};
+use dvd_capture::parts::{AnswerRow, ColumnAnswer, Marks, Received};
 use rs_code::Pi;
 use rs_decode::{Erasures, Fix, decode_from};
-use rs_lanes::{Thirds, any_of, row_values_by};
+use rs_lanes::{any_of, are_zeros, row_values_by, transpose};
 use rs_propose::Proposals;
 use std::simd::prelude::*;
 
@@ -53,8 +56,9 @@ pub fn answer_rows(
     requires { start + length piece.old ≤ 208 }
     ensures { AreAnswersFrom (received_rows received.now) (marks_rows marks.now) start piece.new }
 {
-    // The words of a group as three thirds of 85 places each, from which values are found: room for all groups, so that
-    // it is set to zeros once.
+    // Room for all groups, so that it is set to zeros once: the rows transposed, and their thirds, pieces of 85 places
+    // from which values are found.
+    let mut transposed = [u8x32::splat(0); 182];
     let mut thirds = [[u8x32::splat(0); 3]; 85];
     for group in 0..piece.len().div_ceil(32) {
         let at = 32 * group;
@@ -62,9 +66,77 @@ pub fn answer_rows(
         let rows = &mut piece[at..end];
         // Where all are lost, their values aren't needed.
         if !answer_lost_rows(received, marks, start + at, rows) {
-            answer_group(code, received, marks, &mut thirds, start + at, rows);
+            // Values are found for 32 rows, also where fewer are left: the last 32 rows of 208 begin at row 176.
+            let top = (start + at).min(176);
+            let values = row_values_by(&mut transposed, &mut thirds, received.rows(), top);
+            answer_group(code, received, marks, &values, start + at, rows);
         }
     }
+}
+
+/// Takes the first 192 rows as they were received, those of the data frames, where all are codewords without marks.
+/// Their bytes are also written into the columns: they have been transposed for their values, and needn't be once more.
+/// Answers whether all are so; if not, all 208 rows are answered.
+pub(crate) fn take_data_rows(
+    code: &Pi,
+    received: &Received,
+    marks: &Marks,
+    answers: &mut [AnswerRow],
+    columns: &mut [ColumnAnswer],
+) -> bool
+    requires answers { length answers.old ≡ 208 }
+    requires columns { length columns.old ≡ 182 }
+    ensures answers_size { length answers.new ≡ 208 }
+    ensures size { length columns.new ≡ 182 }
+    ensures upper { IsTrue result → AreAnswersBefore (received_rows received.now) (marks_rows marks.now) answers.new 192 }
+    ensures taken { IsTrue result → AreAsReceivedBefore (received_rows received.now) (marks_rows marks.now) answers.new 192 }
+    ensures copied { IsTrue result → AreColumnsOf (received_rows received.now) columns.new 192 }
+    ensures answered { result ≡ false → AreAnswersFrom (received_rows received.now) (marks_rows marks.now) 0 answers.new }
+{
+    let mut transposed = [u8x32::splat(0); 182];
+    let mut thirds = [[u8x32::splat(0); 3]; 85];
+    for group in 0..6 {
+        let top = 32 * group;
+        let values = row_values_by(&mut transposed, &mut thirds, received.rows(), top);
+        if !take_group(received, marks, &values, top, &mut answers[top..top + 32]) {
+            let rows = &mut answers[top..top + 32];
+            answer_group(code, received, marks, &values, top, rows);
+            answer_rows(code, received, marks, top + 32, &mut answers[top + 32..]);
+            return false;
+        }
+        copy_transposed(&transposed, top, columns);
+    }
+    true
+}
+
+/// Takes the sixteen rows of outer parity as they were received, after all others, and writes their bytes into the
+/// columns. Answers whether none has a mark.
+pub(crate) fn take_parity_rows(
+    received: &Received,
+    marks: &Marks,
+    answers: &mut [AnswerRow],
+    columns: &mut [ColumnAnswer],
+) -> bool
+    requires answers { length answers.old ≡ 208 }
+    requires columns { length columns.old ≡ 182 }
+    requires upper { AreAnswersBefore (received_rows received.now) (marks_rows marks.now) answers.old 192 }
+    requires taken { AreAsReceivedBefore (received_rows received.now) (marks_rows marks.now) answers.old 192 }
+    requires copied { AreColumnsOf (received_rows received.now) columns.old 192 }
+    ensures answers_size { length answers.new ≡ 208 }
+    ensures size { length columns.new ≡ 182 }
+    ensures upper { AreAnswersBefore (received_rows received.now) (marks_rows marks.now) answers.new 192 }
+    ensures taken { IsTrue result → AreAsReceivedBefore (received_rows received.now) (marks_rows marks.now) answers.new 208 }
+    ensures own { IsTrue result → AreOwnFrom answers.new 0 columns.new }
+{
+    let (_, parity) = answers.split_at_mut(192);
+    if !take_unmarked(received, marks, 192, parity) {
+        return false;
+    }
+    // 32 rows are transposed at once: sixteen of them are in the columns already.
+    let mut transposed = [u8x32::splat(0); 182];
+    transpose(received.rows(), 176, &mut transposed);
+    copy_transposed(&transposed, 176, columns);
+    true
 }
 
 // Answers rows until one isn't lost. Answers whether all are. After `false` the caller answers all of them, those from
@@ -105,29 +177,49 @@ fn answer_lost(row: &[u8; 182], marks: &Marks, i: usize, answer: &mut AnswerRow)
     is_lost
 }
 
-// Answers at most 32 rows. The values of all are found at once, and show which rows are codewords. What the thirds were
-// isn't read.
+// Answers 32 rows as they were received, if all are codewords without marks, which their values show. Answers whether
+// they are; if not, some may have been answered so, and the caller answers all of them.
+fn take_group(
+    received: &Received,
+    marks: &Marks,
+    values: &[u8x32; 10],
+    start: usize,
+    piece: &mut [AnswerRow],
+) -> bool
+    requires size { length piece.old ≡ 32 }
+    requires rows { start + 32 ≤ 208 }
+    requires lanes { EachIndex values.now (λ k. length (line values.now k) ≡ 32) }
+    requires values { (k n : ℕ) → k < 10 → n < 32 → place values.now k n ≡ value (line (received_rows received.now) (start + n)) (power alpha k) }
+    ensures size { length piece.new ≡ 32 }
+    ensures answers { IsTrue result → AreAnswersFrom (received_rows received.now) (marks_rows marks.now) start piece.new }
+    ensures taken { IsTrue result → AreAsReceivedFrom (received_rows received.now) (marks_rows marks.now) start piece.new }
+{
+    are_zeros(any_of(values)) && take_unmarked(received, marks, start, piece)
+}
+
+// Answers at most 32 rows, by the values of 32: of those from `start` on, or of the last 32 where fewer are left. Values
+// show which rows are codewords. In clauses `top_of start` is the row of lane 0.
 fn answer_group(
     code: &Pi,
     received: &Received,
     marks: &Marks,
-    thirds: &mut Thirds,
+    values: &[u8x32; 10],
     start: usize,
     piece: &mut [AnswerRow],
 )
     requires few { length piece.old ≤ 32 }
     requires rows { start + length piece.old ≤ 208 }
+    requires lanes { EachIndex values.now (λ k. length (line values.now k) ≡ 32) }
+    requires values { (k n : ℕ) → k < 10 → n < 32 → place values.now k n ≡ value (line (received_rows received.now) (top_of start + n)) (power alpha k) }
     ensures size { length piece.new ≡ length piece.old }
     ensures answers { AreAnswersFrom (received_rows received.now) (marks_rows marks.now) start piece.new }
 {
-    // Values are found for 32 rows, also where fewer are left: the last 32 rows of 208 begin at row 176.
     let top = start.min(176);
-    let values = row_values_by(thirds, received.rows(), top);
-    let wrong = any_of(&values);
+    let wrong = any_of(values);
     // Those of no row: where none are made, none is believed, and each row is decoded by itself.
     let mut proposals = Proposals::none();
     if are_many(marks, wrong, start, top, piece.len()) {
-        proposals.propose(&values);
+        proposals.propose(values);
     }
     let mut row_marks = [false; 182];
     for (k, answer) in piece.iter_mut().enumerate() {
@@ -138,12 +230,12 @@ fn answer_group(
         if !marks.is_clear(i) {
             if !answer_lost(row, marks, i, answer) {
                 marks.row(i, &mut row_marks);
-                answer_marked(code, row, &row_marks, lane_of(&values, i - top), answer);
+                answer_marked(code, row, &row_marks, lane_of(values, i - top), answer);
             }
         } else if wrong[i - top] == 0 {
             answer_codeword(row, answer);
         } else {
-            let syndromes = lane_of(&values, i - top);
+            let syndromes = lane_of(values, i - top);
             answer_unmarked(code, row, syndromes, &proposals, i - top, answer);
         }
     }
@@ -171,7 +263,7 @@ fn answer_codeword(row: &[u8; 182], answer: &mut AnswerRow)
     requires { (k : ℕ) → k < 10 → value row.now (power alpha k) ≡ 0 }
     ensures { IsAnswer row.now (replicate 182 false) answer.new }
 {
-    answer.set(row, Some(UNCHANGED));
+    take_row(row, answer);
 }
 
 // Answers one row without marks, by its syndromes: as is proposed for it in lane `n`, if that is right, and else by
@@ -240,6 +332,30 @@ fn answer_erased(
         Ok(fix) => answer.fix = Some(fix),
         Err(_) => answer.fix = None,
     }
+}
+
+// Answers the rows from `start` on as they were received, without a test, as far as they have no mark. Answers whether
+// none has: where they are codewords, these are their answers then. Callers find out by the columns.
+fn take_unmarked(received: &Received, marks: &Marks, start: usize, piece: &mut [AnswerRow]) -> bool
+    requires { start + length piece.old ≤ 208 }
+    ensures size { length piece.new ≡ length piece.old }
+    ensures taken { IsTrue result → AreAsReceivedFrom (received_rows received.now) (marks_rows marks.now) start piece.new }
+{
+    for (k, answer) in piece.iter_mut().enumerate() {
+        let i = start + k;
+        if !marks.is_clear(i) {
+            return false;
+        }
+        take_row(received.row(i), answer);
+    }
+    true
+}
+
+// Answers a row as it is.
+fn take_row(row: &[u8; 182], answer: &mut AnswerRow)
+    ensures { IsAsReceived row.now (replicate 182 false) answer.new }
+{
+    answer.set(row, Some(UNCHANGED));
 }
 
 /// Notes which rows failed. They are the marks of all columns, so that a flag for each row is needed and not their

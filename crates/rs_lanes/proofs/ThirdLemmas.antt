@@ -3,17 +3,16 @@
 -- third-one, third-two, each_of_three, rotated_once, rotated_twice, rotated_back; `AreStored` with none_stored, thirds_more,
 -- thirds_bytes, `thirds_told`).
 use Rattle.std.proofs.Common.{◌≡◌, ℕ, zero, suc, ◌+◌, ◌-◌, ◌*◌, ◌/◌, ◌%◌, ◌<◌, ◌≤◌, List, [], length, get_or, set, take, drop, replicate, All, refl, sym, ap, subst, ◌∙◌, inl, inr, arith, length-append, length-take-le, length-set, get_or-take, get_or-drop, get_or-set_other}
-use Rattle.std.proofs.Math.ListN.{get_or-map}
 use Rattle.std.proofs.Math.Seq.{take-add, take-length}
 use Rattle.std.proofs.lemmas.Bool.{cases_eq}
 use Rattle.std.proofs.lemmas.Grind.{get_or-set_at, same_number_lists}
 use Rattle.std.proofs.lemmas.List.Elements.{All-from_get_or}
 use Rattle.std.proofs.lemmas.List.FromFn.{get_or-map-range_with_len, length-map-range_with_len}
-use Rattle.std.proofs.lemmas.List.{length-map, get_or_append_left, get_or-append_right}
+use Rattle.std.proofs.lemmas.List.{get_or_append_left, get_or-append_right}
 use Rattle.std.proofs.lemmas.Simd.{length-chunk, length-replicate, get_or-replicate}
 use Rattle.coding.specs.Field.{alpha, plus, shift, shifted, partial_product, product, power}
 use Rattle.coding.specs.Words.{IsByte, value}
-use Rattle.gf_field.proofs.FieldLaws.{plus-byte, plus-product, product-plus, product-comm, product-assoc, one-product, product-byte, product-one, power-zero, power-one, power-add, power-mul, power-byte, power-alpha-mod, power-alpha-shifted, zero-product, zero-plus}
+use Rattle.gf_field.proofs.FieldLaws.{plus-byte, plus-product, product-plus, product-comm, product-assoc, one-product, product-byte, product-one, power-zero, power-add, power-mul, power-alpha-mod, power-alpha-shifted, zero-product, zero-plus}
 use Rattle.rs_code.specs.Inner.Polynomials.{mul_scalar}
 use Rattle.rs_code.proofs.Ring.{ring}
 use Rattle.rs_code.proofs.Values.{value-append, value-sum_of, value-mul_scalar, value-zeros, length-sum_of, get_or-sum_of, length-mul_scalar, get_or-mul_scalar, value-more}

@@ -36,4 +36,4 @@ pub use lanes::{any_of, are_zeros, load, multiple, store, with_multiple};
 pub use points::{mul_scalar, powers};
 pub use row::Row;
 pub use rows::{inner_parity, row_values, row_values_by, transposed_values};
-pub use transposing::load_transposed;
+pub use transposing::{load_transposed, transpose};

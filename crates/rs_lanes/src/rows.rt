@@ -52,22 +52,28 @@ pub fn row_values(rows: &[[u8; 182]], top: usize) -> [u8x32; 10]
     ensures lanes { EachIndex result (λ k. length (line result k) ≡ 32) }
     ensures values { (k n : ℕ) → k < 10 → n < 32 → place result k n ≡ value (line rows.now (top + n)) (power alpha k) }
 {
-    row_values_by(&mut [[u8x32::splat(0); 3]; 85], rows, top)
+    let mut transposed = [u8x32::splat(0); 182];
+    row_values_by(&mut transposed, &mut [[u8x32::splat(0); 3]; 85], rows, top)
 }
 
-/// The values of 32 rows as `row_values` has them, by thirds that are put where the caller has room for them. It is for
-/// callers that go through all rows of a block: what the room has isn't read, so one serves all groups, and isn't set
-/// to zeros for each.
-pub fn row_values_by(thirds: &mut Thirds, rows: &[[u8; 182]], top: usize) -> [u8x32; 10]
+/// The values of 32 rows as `row_values` has them, by the transposed rows and their thirds, which are put where the
+/// caller has room for them. What the room has isn't read, so one serves all groups of a block, and isn't set to zeros
+/// for each. Callers that copy the rows as columns find them transposed.
+pub fn row_values_by(
+    transposed: &mut [u8x32; 182],
+    thirds: &mut Thirds,
+    rows: &[[u8; 182]],
+    top: usize,
+) -> [u8x32; 10]
     requires { top + 32 ≤ length rows.now }
     ensures sizes { (n : ℕ) → n < 32 → length (line rows.now (top + n)) ≡ 182 }
     ensures bytes { (n : ℕ) → n < 32 → All IsByte (line rows.now (top + n)) }
     ensures lanes { EachIndex result (λ k. length (line result k) ≡ 32) }
     ensures values { (k n : ℕ) → k < 10 → n < 32 → place result k n ≡ value (line rows.now (top + n)) (power alpha k) }
+    ensures transposed { (k n : ℕ) → k < 182 → n < 32 → place transposed.new k n ≡ place rows.now (top + n) k }
 {
-    let mut transposed = [u8x32::splat(0); 182];
-    transpose(rows, top, &mut transposed);
-    values_by(thirds, &transposed)
+    transpose(rows, top, transposed);
+    values_by(thirds, transposed)
 }
 
 /// The values of 32 transposed words at the same powers, where each vector has one place of all words: those of word

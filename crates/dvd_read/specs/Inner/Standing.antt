@@ -1,7 +1,9 @@
 -- Ours: rows that are answered by codewords, and columns that are copied of these answers or have their bytes.
-use Rattle.std.specs.Prelude.{◌≡◌, ℕ, ◌+◌, ◌<◌, ◌≤◌, List, [], length, slice_index, slice_index_or, Some}
-use Rattle.coding.specs.Product.{column}
-use Rattle.coding.specs.Words.{IsCodeword}
+use Rattle.std.specs.Prelude.{◌≡◌, ℕ, ◌+◌, ◌-◌, ◌<◌, ◌≤◌, Bool, true, List, [], is_some, length, slice_index, slice_index_or, Some}
+use Rattle.coding.specs.Field.{alpha, power}
+use Rattle.coding.specs.Product.{column, line, place}
+use Rattle.coding.specs.Words.{IsCodeword, value}
+use Rattle.dvd_capture.specs.Answers.{IsAnswer, marks_line}
 use Rattle.dvd_capture.specs.declared.parts.AnswerRow.{AnswerRow}
 use Rattle.dvd_capture.specs.declared.parts.ColumnAnswer.{ColumnAnswer}
 use Rattle.dvd_read.specs.Parts.{answer_word, answer_bytes}
@@ -27,3 +29,31 @@ abbrev pub IsRowKept : List AnswerRow → List ColumnAnswer → ℕ → ℕ → 
 IsRowKept answers columns i at end =
     (j : ℕ) (default : ColumnAnswer) → at ≤ j → j < end
     → slice_index (slice_index_or columns j default).bytes i ≡ slice_index (slice_index_or (answer_bytes answers) i []) j
+
+-- these are the answers of the first pass to the rows before row n
+abbrev pub AreAnswersBefore : List (List ℕ) → List (List Bool) → List AnswerRow → ℕ → Type 0
+AreAnswersBefore received marks answers n = (i : ℕ) (default : AnswerRow) → i < n → IsAnswer (line received i) (marks_line marks i) (slice_index_or answers i default)
+
+-- This is the answer to a row if that is a codeword: its bytes as they were received.
+pub record IsAsReceived (row : List ℕ) (marks : List Bool) (answer : AnswerRow) : Type 0 where
+  pub bytes : answer.bytes ≡ row
+  pub width : length row ≡ 182
+  pub answered : is_some answer.fix ≡ true
+  pub right : ((k : ℕ) → k < 10 → value row (power alpha k) ≡ 0) → IsAnswer row marks answer
+
+-- these are so of the rows from `start` on
+pub record AreAsReceivedFrom (received : List (List ℕ)) (marks : List (List Bool)) (start : ℕ) (piece : List AnswerRow) : Type 0 where
+  pub are : (k : ℕ) (default : AnswerRow) → k < length piece
+      → IsAsReceived (line received (start + k)) (marks_line marks (start + k)) (slice_index_or piece k default)
+
+-- and these of the rows before row n
+abbrev pub AreAsReceivedBefore : List (List ℕ) → List (List Bool) → List AnswerRow → ℕ → Type 0
+AreAsReceivedBefore received marks answers n = (i : ℕ) (default : AnswerRow) → i < n → IsAsReceived (line received i) (marks_line marks i) (slice_index_or answers i default)
+
+-- the columns have the bytes of the first n of these rows
+abbrev pub AreColumnsOf : List (List ℕ) → List ColumnAnswer → ℕ → Type 0
+AreColumnsOf rows columns n = (j i : ℕ) (default : ColumnAnswer) → j < 182 → i < n → slice_index (slice_index_or columns j default).bytes i ≡ place rows i j
+
+-- the first of the 32 rows whose values are found for those from `start` on: the last 32 begin at row 176
+abbrev pub top_of : ℕ → ℕ
+top_of start = start - (start - 176)

@@ -1,5 +1,5 @@
 -- The proof of `next_value` in src/fold3.rt.
-use Rattle.std.proofs.Common.{◌≡◌, get_or, sym, ap, subst, ◌∙◌, arith}
+use Rattle.std.proofs.Common.{get_or, sym, ap, subst, ◌∙◌, arith}
 use Rattle.coding.specs.Field.{alpha, plus, product, power}
 use Rattle.rs_lanes.specs.Inner.Lanes.{HasLanes}
 use Rattle.rs_lanes.proofs.fold3.next_value.Goals.{then-k-count, else-k-count}

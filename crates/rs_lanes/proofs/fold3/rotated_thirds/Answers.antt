@@ -1,5 +1,5 @@
 -- The proof of `rotated_thirds` in src/fold3.rt.
-use Rattle.std.proofs.Common.{◌≡◌, ℕ, ◌%◌, ◌<◌, get_or, ◌∙◌, arith}
+use Rattle.std.proofs.Common.{◌≡◌, ◌%◌, ◌∙◌, arith}
 use Rattle.gf_field.proofs.FieldLaws.{plus-byte, product-byte}
 use Rattle.rs_lanes.proofs.ThirdLemmas.{rotated_none, rotated_once, rotated_twice}
 use Rattle.rs_lanes.proofs.fold3.rotated_thirds.Goals as goal

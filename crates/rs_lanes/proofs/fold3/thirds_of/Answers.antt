@@ -1,5 +1,5 @@
 -- The proof of `thirds_of` in src/fold3.rt.
-use Rattle.std.proofs.Common.{ℕ, ◌<◌, [], ◌∷◌, get_or, arith}
+use Rattle.std.proofs.Common.{ℕ, ◌<◌, [], ◌∷◌, get_or}
 use Rattle.coding.specs.Rows.{line}
 use Rattle.rs_lanes.specs.Inner.Lanes.{HasLanes}
 use Rattle.rs_lanes.specs.Inner.Thirds.{third_byte}

@@ -1,5 +1,5 @@
 -- The proof of `at_fifth_roots` in src/fold5.rt.
-use Rattle.std.proofs.Common.{ℕ, ◌*◌, ◌<◌, [], ◌∷◌, get_or, arith}
+use Rattle.std.proofs.Common.{ℕ, ◌*◌, ◌<◌, [], ◌∷◌, get_or}
 use Rattle.coding.specs.Field.{alpha, power}
 use Rattle.coding.specs.Words.{value}
 use Rattle.rs_lanes.specs.Inner.Lanes.{HasLanes}

@@ -31,3 +31,6 @@ returns-clause-values c = λ k n few below.
     c.values_by.ensures.values k n few below
     ∙ ap (λ word. value word (power alpha k))
     (same c.args.rows.now c.transpose.new.transposed c.args.top n (omega arith) (c.transpose.ensures.sizes n below) (λ p inside. c.transpose.ensures.transposed p n inside below))
+
+pub returns-clause-transposed : goal.returns-clause-transposed
+returns-clause-transposed c = λ k n inside below. c.transpose.ensures.transposed k n inside below ∙ ap (λ xs. place xs (c.args.top + n) k) (map-id c.args.rows.now)
