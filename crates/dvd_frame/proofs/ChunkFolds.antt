@@ -1,5 +1,5 @@
--- Bytes that are a quotient times a multiple of the divisor, and a rest: division leaves the same of the rest as of all.
--- What is left of bytes is a sum (left_of) over them.
+-- Bytes that are a quotient times a multiple of the divisor, and a rest: division leaves the same of the rest as of
+-- all. What is left of bytes is a sum (left_of) over them.
 use Rattle.std.proofs.Common.{◌≡◌, ℕ, zero, suc, ◌+◌, ◌*◌, ◌^◌, List, [], ◌∷◌, ◌++◌, length, refl, sym, ◌∙◌, ap, subst, zero-add, arith}
 use Rattle.std.specs.Prelude.{bit_xor, replicate}
 use Rattle.std.specs.Int.Bits.{xor_zero_l, xor_zero_r, xor_assoc, xor_self}
@@ -105,8 +105,8 @@ plus_before xs added p r size =
 xor_quotient : (a b c d rest : ℕ) → a ≡ bit_xor (bit_xor b c) d → bit_xor (bit_xor (bit_xor (bit_xor a rest) b) c) d ≡ rest
 xor_quotient a b c d rest is = ap (λ (x : ℕ). bit_xor (bit_xor (bit_xor (bit_xor x rest) b) c) d) is ∙ same_from_bits _ _ (λ i. simp bit_at_xor (omega arith))
 
--- Bytes that are a quotient and a rest: the quotient times the multiple of the divisor leaves nothing, so the rest leaves
--- what all leave.
+-- Bytes that are a quotient and a rest: the quotient times the multiple of the divisor leaves nothing, so the rest
+-- leaves what all leave.
 pub rest_divided : (k w : ℕ) (bytes quotient rest : List ℕ) → w ≡ 2 ^ k → length quotient ≡ 33 * w → length rest ≡ 32 * w
     → bytes ≡ plus_prefix (plus_prefix (plus_prefix (quotient ++ rest) (replicate w 0 ++ quotient)) (replicate (28 * w) 0 ++ quotient)) (replicate (32 * w) 0 ++ quotient)
     → divided_from 0 rest ≡ divided_from 0 bytes

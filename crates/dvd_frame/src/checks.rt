@@ -71,8 +71,8 @@ fn divide_parts(prefix: &[u8], back: &[u8]) -> u32
 // The remainder of 2,048 bytes, which are 64 chunks of 32, with at most one chunk before them: zeros in front of that
 // change nothing. A fold leaves 32 chunks, which are 64 of half the size for the next, with no chunk before them. After
 // four folds by vectors 128 bytes are left to divide.
-// All is inlined: where the lengths are known, loops over them are written out, and most of the room that they fill isn't
-// set to zeros before.
+// All is inlined: where the lengths are known, loops over them are written out, and most of the room that they fill
+// isn't set to zeros before.
 #[inline(always)]
 fn folded(prefix: &[u8], back: &[u8]) -> u32
     requires prefix { length prefix.now ≤ 32 }

@@ -13,10 +13,10 @@ use crate::parts::{load, store};
 use std::simd::prelude::*;
 
 /// Divides 65 chunks of W bytes, the first of which is apart from the others, and writes the 32 chunks that are left:
-/// these leave the same remainder as all. W is a power of two, without which the multiple above is none, and 32 at most,
-/// a vector of the machine. Callers lend room for the quotient, which they don't need: its length can't be computed from
-/// W here. What was in both lists isn't read. This and its parts are inlined, so that vectors needn't pass through
-/// memory.
+/// these leave the same remainder as all. W is a power of two, without which the multiple above is none, and 32 at
+/// most, a vector of the machine. Callers lend room for the quotient, which they don't need: its length can't be
+/// computed from W here. What was in both lists isn't read. This and its parts are inlined, so that vectors needn't
+/// pass through memory.
 #[inline(always)]
 pub(crate) fn fold<const W: usize>(
     first: Simd<u8, W>,
@@ -35,8 +35,8 @@ pub(crate) fn fold<const W: usize>(
     set_rest::<W>(others, quotient, rest);
 }
 
-// Writes the quotient of 65 chunks: each of its 33 chunks is the chunk that is divided, plus those of the quotient 1, 28
-// and 32 chunks before it. The one before is carried in a register, as each waits for it.
+// Writes the quotient of 65 chunks: each of its 33 chunks is the chunk that is divided, plus those of the quotient 1,
+// 28 and 32 chunks before it. The one before is carried in a register, as each waits for it.
 #[inline(always)]
 fn set_quotient<const W: usize>(first: Simd<u8, W>, others: &[u8], quotient: &mut [u8])
     requires others { length others.now ≡ 64 * W }

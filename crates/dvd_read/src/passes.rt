@@ -66,8 +66,8 @@ pub(crate) fn answer_block(work: &mut Work) -> bool
 }
 
 // Answers all rows and columns, of buffers that are lent one by one. Where a block is as it was recorded, the rows of
-// outer parity aren't tested: these sixteen are codewords where all other rows are and all columns. Where it isn't, they
-// are answered as any other rows.
+// outer parity aren't tested: these sixteen are codewords where all other rows are and all columns. Where it isn't,
+// they are answered as any other rows.
 fn answer_both(
     received: &Received,
     marks: &Marks,

@@ -197,8 +197,8 @@ fn take_group(
     are_zeros(any_of(values)) && take_unmarked(received, marks, start, piece)
 }
 
-// Answers at most 32 rows, by the values of 32: of those from `start` on, or of the last 32 where fewer are left. Values
-// show which rows are codewords. In clauses `top_of start` is the row of lane 0.
+// Answers at most 32 rows, by the values of 32: of those from `start` on, or of the last 32 where fewer are left.
+// Values show which rows are codewords. In clauses `top_of start` is the row of lane 0.
 fn answer_group(
     code: &Pi,
     received: &Received,

@@ -13,9 +13,9 @@ ghost use Rattle.rs_lanes.specs.Inner.Transposing.{IsRiffled, IsTransposed};
 use crate::row::Row;
 use std::simd::prelude::*;
 
-/// Sets all vectors to the places of the 32 rows from `top` on. Also ensures that these rows have 182 places, as callers
-/// know it of no row in a list. What the vectors had isn't read. They are put where the caller has them, so that 5,824
-/// bytes needn't be copied. It is public for callers that copy all columns of 32 rows.
+/// Sets all vectors to the places of the 32 rows from `top` on. Also ensures that these rows have 182 places, as
+/// callers know it of no row in a list. What the vectors had isn't read. They are put where the caller has them, so
+/// that 5,824 bytes needn't be copied. It is public for callers that copy all columns of 32 rows.
 pub fn transpose<T: Row>(rows: &[T], top: usize, transposed: &mut [u8x32; 182])
     requires { top + 32 ≤ length rows.now }
     ensures sizes { (n : ℕ) → n < 32 → length (line (map T.word rows.now) (top + n)) ≡ 182 }

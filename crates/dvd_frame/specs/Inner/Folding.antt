@@ -5,8 +5,8 @@ use Rattle.std.specs.Prelude.{◌≡◌, ℕ, ◌+◌, ◌*◌, ◌<◌, List, �
 abbrev pub byte_after : ℕ → List ℕ → ℕ → ℕ
 byte_after p bytes k = slice_index (replicate p 0 ++ bytes) k
 
--- The first n bytes of a quotient: each is the byte that is divided, with those of the quotient 1, 28 and 32 chunks of w
--- bytes before it.
+-- The first n bytes of a quotient: each is the byte that is divided, with those of the quotient 1, 28 and 32 chunks of
+-- w bytes before it.
 abbrev pub AreQuotients : ℕ → List ℕ → List ℕ → ℕ → Type 0
 AreQuotients w bytes quotient n =
     (k : ℕ) → k < n
