@@ -55,6 +55,11 @@ pub(crate) fn answer_block<R: Threads + Sync, G: Gate>(
     ensures received { KeepsReceived work.old work.new }
     ensures sectors { work.new.sectors ≡ work.old.sectors }
 {
+    // One worker has all rows and all columns, so the plain call does both passes; the gate is asked where each begins.
+    if workers == 1 {
+        gate.pass(0);
+        return dvd_read::parts::answer_block(work, || gate.pass(0));
+    }
     // Answers of an earlier reading don't count from here on, since they are overwritten. The stage stays Fetched:
     // `end_passes` sets what was found.
     work.set_stage(Stage::Fetched);
@@ -108,12 +113,6 @@ fn column_pass<R: Threads + Sync, G: Gate>(
     let Some(failed) = few_failed(answers) else {
         return false;
     };
-    // One worker sees all columns, and so knows by itself whether they keep the rows. The gate is asked here, as
-    // `for_each_piece` asks it.
-    if workers == 1 {
-        gate.pass(0);
-        return answer_columns(&Po::new(), answers, &failed, 0, columns);
-    }
     column_pieces(rt, workers, gate, answers, &failed, columns);
     are_kept(answers, &failed, columns)
 }

@@ -19,7 +19,7 @@ ghost use Rattle.dvd_decoding.specs.Causes.{two_pass_cause};
 ghost use Rattle.coding.specs.Found.{block_differences, block_found};
 ghost use Rattle.dvd_read.specs.Parts.{AreAnswersFrom, AreColumnsFrom, AreKeptFrom, AreRowsHeld, AreRowsKept, answer_word};
 ghost use Rattle.dvd_read.specs.Inner.Found.{words_of_columns};
-ghost use Rattle.dvd_read.specs.Inner.Standing.{AreAnswersBefore, AreCodewords};
+ghost use Rattle.dvd_read.specs.Inner.Standing.{AreAnswersBefore, AreAsReceivedBefore, AreCodewords, AreOwnFrom};
 
 use crate::columns::{answer_columns, answer_copied_columns, first_missing, first_wrong, read_row};
 use crate::fixed::Fixed;
@@ -42,15 +42,18 @@ pub fn two_pass(work: &mut Work) -> Result<Fixed, Cause>
 
     ensures { IsDecoded work.old work.new result }
 {
-    let are_kept = answer_block(work);
+    let are_kept = answer_block(work, || ());
     end_passes(work, are_kept)
 }
 
-/// Answers the rows and columns of a captured block. Answers whether the columns correct no row that was answered;
-/// `false` claims nothing. What was found is set by `end_passes`: the two are apart since several workers answer
-/// likewise in dvd_par, and end by the same call.
-pub(crate) fn answer_block(work: &mut Work) -> bool
-    requires { HasBlock (stage_of work.old) }
+/// Answers the rows and columns of a captured block, on this thread. Answers whether the columns correct no row that was
+/// answered; `false` claims nothing. `begin_columns` is called once, where the second pass begins, and not at all where
+/// more rows failed than it can correct: what it does is the caller's, so no clause says when it is called.
+/// What was found is set by `end_passes`: the two are apart since several workers answer likewise in dvd_par, and end by
+/// the same call.
+pub fn answer_block<F: FnOnce()>(work: &mut Work, begin_columns: F) -> bool
+    requires stage { HasBlock (stage_of work.old) }
+    requires callable { F.IsAlwaysCallable begin_columns }
     ensures answered { AreBothAnswered work.new result }
     ensures received { KeepsReceived work.old work.new }
     ensures sectors { work.new.sectors ≡ work.old.sectors }
@@ -62,35 +65,64 @@ pub(crate) fn answer_block(work: &mut Work) -> bool
         &work.marks,
         work.answers.rows_mut(),
         work.columns.all_mut(),
+        begin_columns,
     )
 }
 
 // Answers all rows and columns, of buffers that are lent one by one. Where a block is as it was recorded, the rows of
 // outer parity aren't tested: these sixteen are codewords where all other rows are and all columns. Where it isn't,
-// they are answered as any other rows.
-fn answer_both(
+// they are answered as any other rows, and then all columns once more.
+fn answer_both<F: FnOnce()>(
+    received: &Received,
+    marks: &Marks,
+    answers: &mut [AnswerRow],
+    columns: &mut [ColumnAnswer],
+    begin_columns: F,
+) -> bool
+    requires rows { length answers.old ≡ 208 }
+    requires columns { length columns.old ≡ 182 }
+    requires callable { F.IsAlwaysCallable begin_columns }
+    ensures rows { AreAnswersFrom (received_rows received.now) (marks_rows marks.now) 0 answers.new }
+    ensures columns { AreColumnsAnswered answers.new columns.new result }
+{
+    let code = Pi::new();
+    if !take_rows(&code, received, marks, answers, columns) {
+        return answer_all_columns(answers, columns, begin_columns);
+    }
+    begin_columns();
+    if answer_copied_columns(answers, columns) && first_missing(columns).is_none() {
+        return true;
+    }
+    answer_parity_rows(&code, received, marks, answers);
+    answer_all_columns(answers, columns, || ())
+}
+
+// The first pass. Answers whether all rows are taken as they were received, with their bytes in the columns; those of
+// outer parity are then not known to be codewords.
+fn take_rows(
+    code: &Pi,
     received: &Received,
     marks: &Marks,
     answers: &mut [AnswerRow],
     columns: &mut [ColumnAnswer],
 ) -> bool
-    requires rows { length answers.old ≡ 208 }
+    requires answers { length answers.old ≡ 208 }
     requires columns { length columns.old ≡ 182 }
-    ensures rows { AreAnswersFrom (received_rows received.now) (marks_rows marks.now) 0 answers.new }
-    ensures columns { AreColumnsAnswered answers.new columns.new result }
+    ensures answers_size { length answers.new ≡ 208 }
+    ensures size { length columns.new ≡ 182 }
+    ensures answered { result ≡ false → AreAnswersFrom (received_rows received.now) (marks_rows marks.now) 0 answers.new }
+    ensures upper { IsTrue result → AreAnswersBefore (received_rows received.now) (marks_rows marks.now) answers.new 192 }
+    ensures taken { IsTrue result → AreAsReceivedBefore (received_rows received.now) (marks_rows marks.now) answers.new 208 }
+    ensures own { IsTrue result → AreOwnFrom answers.new 0 columns.new }
 {
-    let code = Pi::new();
-    if !take_data_rows(&code, received, marks, answers, columns) {
-        return answer_all_columns(answers, columns);
+    if !take_data_rows(code, received, marks, answers, columns) {
+        return false;
     }
-    if take_parity_rows(received, marks, answers, columns)
-        && answer_copied_columns(answers, columns)
-        && first_missing(columns).is_none()
-    {
+    if take_parity_rows(received, marks, answers, columns) {
         return true;
     }
-    answer_parity_rows(&code, received, marks, answers);
-    answer_all_columns(answers, columns)
+    answer_parity_rows(code, received, marks, answers);
+    false
 }
 
 // Answers the sixteen rows of outer parity, whatever their answers were. The others stay.
@@ -107,15 +139,21 @@ fn answer_parity_rows(code: &Pi, received: &Received, marks: &Marks, answers: &m
 // The second pass, where no more rows failed than it can correct. Answers whether it corrects no row that was answered.
 // With more failed rows the columns stay as they were, perhaps those of an earlier block. `find_columns` refuses such a
 // block before it looks at them. `false` claims nothing: the rows are tested then.
-fn answer_all_columns(answers: &[AnswerRow], columns: &mut [ColumnAnswer]) -> bool
+fn answer_all_columns<F: FnOnce()>(
+    answers: &[AnswerRow],
+    columns: &mut [ColumnAnswer],
+    begin_columns: F,
+) -> bool
     requires rows { length answers.now ≡ 208 }
     requires columns { length columns.old ≡ 182 }
+    requires callable { F.IsAlwaysCallable begin_columns }
     ensures { AreColumnsAnswered answers.now columns.new result }
 {
-    match few_failed(answers) {
-        Some(failed) => answer_columns(&Po::new(), answers, &failed, 0, columns),
-        None => false,
-    }
+    let Some(failed) = few_failed(answers) else {
+        return false;
+    };
+    begin_columns();
+    answer_columns(&Po::new(), answers, &failed, 0, columns)
 }
 
 /// Which rows failed, where these are no more than the second pass can correct: with more it isn't begun. It is public

@@ -23,7 +23,7 @@ pub fn read_block(work: &mut Work, plan: &BlockPlan) -> Result<Fixed, Cause>
     requires numbers { HasNumbers plan.now }
     ensures { IsBlockRead work.old work.new plan.now result }
 {
-    let are_kept = answer_block(work);
+    let are_kept = answer_block(work, || ());
     end_reading(work, plan, are_kept)
 }
 

@@ -11,7 +11,7 @@ none-is None none = refl
 none-is (Some j) none = cc
 
 pub returns-then-is_none-clause-rows : goal.returns-then-is_none-clause-rows
-returns-then-is_none-clause-rows c =
-    taken-answered (received_rows c.args.received.now) (marks_rows c.args.marks.now) c.take_parity_rows.new.answers c.answer_copied_columns.new.columns c.take_parity_rows.ensures.answers_size (omega arith)
-    c.take_parity_rows.ensures.upper (c.take_parity_rows.ensures.taken c.if-take_parity_rows.true)
+returns-then-is_none-clause-rows g c =
+    taken-answered (received_rows c.args.received.now) (marks_rows c.args.marks.now) c.take_rows.new.answers c.answer_copied_columns.new.columns c.take_rows.ensures.answers_size (omega arith)
+    (c.take_rows.ensures.upper c.if-not-take_rows.false) (c.take_rows.ensures.taken c.if-not-take_rows.false)
     c.if-answer_copied_columns.ensures (sym c.first_missing.ensures ∙ none-is c.first_missing.result c.if-is_none.ensures)
