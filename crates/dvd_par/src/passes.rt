@@ -9,13 +9,13 @@ ghost use Rattle.dvd_capture.specs.Works.{stage_of};
 ghost use Rattle.dvd_capture.specs.Parts.{marks_rows, received_rows};
 ghost use Rattle.dvd_capture.specs.Kept.{KeepsReceived};
 ghost use Rattle.dvd_read.specs.Calls.{AreColumnsAnswered, AreBothAnswered, IsDecoded};
-ghost use Rattle.dvd_read.specs.Parts.{AreAnswersFrom, AreColumnsFrom, answer_word};
+ghost use Rattle.dvd_read.specs.Parts.{AreAnswersFrom, AreColumnsFrom, AreSameAnswers, answer_word};
 
 use crate::cutting::for_each_piece;
 use crate::gate::Gate;
 use dvd_capture::parts::{AnswerRow, ColumnAnswer, Marks, Received};
 use dvd_capture::{Stage, Work};
-use dvd_read::parts::{answer_columns, answer_rows, are_kept, end_passes, few_failed};
+use dvd_read::parts::{answer_columns, answer_rows, end_passes, few_failed, hold_columns};
 use dvd_read::{Cause, Fixed};
 use rs_code::{Pi, Po};
 use std::thread::Threads;
@@ -34,15 +34,15 @@ pub fn two_pass_par<R: Threads + Sync, G: Gate>(
     requires stage { HasBlock (stage_of work.old) }
     ensures { IsDecoded work.old work.new result }
 {
-    let are_kept = answer_block(rt, workers, gate, work);
+    let are_held = answer_block(rt, workers, gate, work);
     // What the passes came to is asked once all pieces are done.
-    end_passes(work, are_kept)
+    end_passes(work, are_held)
 }
 
-/// Answers the rows and columns of a captured block. Answers whether the columns are known to correct no row that was
-/// answered. `false` says nothing: then all rows are tested. With more than sixteen failed rows the columns stay as
-/// they were, and `end_passes` doesn't look at them. `read_block_par` calls it too: for the frames it has to know
-/// whether the rows are kept.
+/// Answers the rows and columns of a captured block. Answers whether the rows' answers are known to have all bytes of
+/// the columns. `false` says nothing: then all rows are tested. With more than sixteen failed rows the columns stay as
+/// they were, and `end_passes` doesn't look at them. `read_block_par` calls it too: for the frames it has to know where
+/// rows can be read whole.
 pub(crate) fn answer_block<R: Threads + Sync, G: Gate>(
     rt: &R,
     workers: u8,
@@ -66,7 +66,7 @@ pub(crate) fn answer_block<R: Threads + Sync, G: Gate>(
     let answers = work.answers.rows_mut();
     row_pass(rt, workers, gate, &work.received, &work.marks, answers);
     let columns = work.columns.all_mut();
-    column_pass(rt, workers, gate, work.answers.rows(), columns)
+    column_pass(rt, workers, gate, work.answers.rows_mut(), columns)
 }
 
 // The first pass. A single piece is done on this thread. Rows don't depend on each other, so the answers are the same
@@ -95,31 +95,31 @@ fn row_pass<R: Threads + Sync, G: Gate>(
 }
 
 // The second pass, where no more rows failed than the sixteen parity bytes of a column correct; else the columns stay,
-// and nothing is claimed. Answers whether it is known to correct no row that was answered. Several workers answer their
-// pieces apart from each other, so the columns are compared with the rows at the end. The failed rows are noted once,
-// on this thread, since all columns have them as marks.
+// and nothing is claimed. Answers whether the rows' answers then have all bytes of the columns. Several workers answer
+// their pieces apart from each other, so the columns are compared with the rows at the end, on this thread. The failed
+// rows are noted once, on this thread too, since all columns have them as marks.
 fn column_pass<R: Threads + Sync, G: Gate>(
     rt: &R,
     workers: u8,
     gate: &G,
-    answers: &[AnswerRow],
+    answers: &mut [AnswerRow],
     columns: &mut [ColumnAnswer],
 ) -> bool
     requires workers { 1 ≤ workers }
-    requires rows { length answers.now ≡ 208 }
+    requires rows { length answers.old ≡ 208 }
     requires columns { length columns.old ≡ 182 }
-    ensures { AreColumnsAnswered answers.now columns.new result }
+    ensures same { AreSameAnswers answers.old answers.new }
+    ensures answered { AreColumnsAnswered answers.new columns.new result }
 {
     let Some(failed) = few_failed(answers) else {
         return false;
     };
     column_pieces(rt, workers, gate, answers, &failed, columns);
-    are_kept(answers, &failed, columns)
+    hold_columns(answers, &failed, columns)
 }
 
-// The columns, piece by piece. What is answered of a single piece is dropped: the workers share the closure, which
-// can't note it, and the columns are compared with the rows at the end. The closure is proved by its own clauses, so
-// `requires` repeats there what this function knows of the answers. The workers share one code, as in the first pass.
+// The columns, piece by piece. The closure is proved by its own clauses, so `requires` repeats there what this function
+// knows of the answers. The workers share one code, as in the first pass.
 fn column_pieces<R: Threads + Sync, G: Gate>(
     rt: &R,
     workers: u8,

@@ -15,5 +15,7 @@ pub mod Mastered
 pub mod SavedFrames
 pub mod SavedLaws
 pub mod HeldAnswers
+pub mod Holding
 pub mod AlternatingLanes
 pub mod ParityRows
+pub mod Completing

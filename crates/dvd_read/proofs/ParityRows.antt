@@ -1,28 +1,21 @@
 -- Rows of outer parity that are taken as they were received: they are codewords where all other rows are, and all
 -- columns.
-use Rattle.std.proofs.Common.{◌≡◌, ◌∙◌, ℕ, ◌+◌, ◌-◌, ◌<◌, ◌≤◌, ◌⊎◌, inl, inr, Bool, true, false, not, List, length, map, get_or, position, replicate, slice_index, refl, sym, ap, subst, arith, Some, None, is_none, is_some, ◌++◌, take}
-use Rattle.std.specs.Prelude.{if◌then◌else◌}
-use Rattle.std.proofs.lemmas.Bool.{cases_lt, not-false}
-use Rattle.std.proofs.lemmas.Grind.{same_number_lists}
+use Rattle.std.proofs.Common.{◌≡◌, ◌∙◌, ℕ, ◌+◌, ◌-◌, ◌<◌, ◌≤◌, ◌⊎◌, inl, inr, Bool, true, false, List, length, map, get_or, replicate, sym, ap, subst, arith, is_none, is_some, ◌++◌, take}
+use Rattle.std.proofs.lemmas.Bool.{cases_lt}
 use Rattle.std.proofs.lemmas.List.{length-map, length-replicate, get_or-replicate, get_or_default, same_lists, get_or-take, get_or_append_left, get_or-append_right, length-take-le}
 use Rattle.coding.specs.Field.{alpha, power}
 use Rattle.coding.specs.Words.{IsCodeword, value}
-use Rattle.coding.specs.Filling.{marked}
 use Rattle.coding.specs.Product.{column, line}
 use Rattle.coding.specs.TwoPass.{failed_of}
 use Rattle.dvd_block.proofs.Linear.{rows_vanish}
 use Rattle.dvd_capture.specs.Answers.{IsAnswer, marks_line}
 use Rattle.dvd_capture.specs.declared.parts.AnswerRow.{AnswerRow}
 use Rattle.dvd_capture.specs.declared.parts.ColumnAnswer.{ColumnAnswer}
-use Rattle.dvd_read.specs.Calls.{AreColumnsAnswered}
 use Rattle.dvd_read.specs.Inner.Standing.{AreAnswersBefore, AreColumnsOf, AreOwnFrom, AreAsReceivedBefore, AreAsReceivedFrom, IsAsReceived}
 use Rattle.dvd_read.specs.Parts.{AreAnswersFrom, answer_word, answer_bytes}
 use Rattle.dvd_read.proofs.Codewords.{near_of-codeword}
-use Rattle.dvd_read.proofs.ColumnAnswers.{blank_column}
-use Rattle.dvd_read.proofs.MarkedColumns.{marked-answer}
-use Rattle.dvd_read.proofs.Positions.{none_fails}
 use Rattle.dvd_read.proofs.RowAnswers.{answer_word-is, blank_answer}
-use Rattle.dvd_read.proofs.Standing.{answered-by, column-copied, get_or-answer_bytes, length-answer_bytes, marked-clear, unmarked-at}
+use Rattle.dvd_read.proofs.Standing.{answered-by, column-copied, get_or-answer_bytes, length-answer_bytes, unmarked-at}
 
 -- where all rows are answered none is marked
 pub none-failed : (answers : List AnswerRow) → length answers ≡ 208 → ((i : ℕ) (default : AnswerRow) → i < 208 → is_some (get_or answers i default).fix ≡ true)
@@ -35,36 +28,12 @@ none-failed answers size answered =
     get_or_default (failed_of (map answer_word answers)) i d false within
     ∙ unmarked-at answers i blank_answer (omega arith) (answered i blank_answer below) ∙ sym (get_or-replicate 208 i false d below))
 
--- a column that was answered, and kept, is a codeword of the rows' answers
-column-codeword : (answers : List AnswerRow) (columns : List ColumnAnswer) (j : ℕ) → length answers ≡ 208 → length columns ≡ 182
-    → ((i : ℕ) (default : AnswerRow) → i < 208 → is_some (get_or answers i default).fix ≡ true)
-    → AreColumnsAnswered answers columns true → position (λ (column : ColumnAnswer). not column.answered) columns ≡ None → j < 182
-    → IsCodeword 208 16 (column (answer_bytes answers) j)
-column-codeword answers columns j size columns_size answered are none below =
-    let words = map answer_word answers in
-    let own : List ℕ = column (answer_bytes answers) j in
-    let found : ColumnAnswer = get_or columns j blank_column in
-    let clear : failed_of words ≡ replicate 208 false = none-failed answers size answered in
-    let few : marked (failed_of words) ≡ 0 = ap marked clear ∙ marked-clear 208 in
-    let here : 0 + j ≡ j = omega arith in
-    let flag : found.answered ≡ true = not-false _ (none_fails (λ (column : ColumnAnswer). not column.answered) columns j blank_column none (omega arith)) in
-    let near = sym (ap (λ (f : Bool). if f then Some found.bytes else None) flag) ∙ (are.found (omega (arith, few))).are j blank_column (omega arith) ∙ sym (marked-answer answers (0 + j) size) in
-    let codeword : IsCodeword 208 16 found.bytes = near_of-codeword 208 16 (column (answer_bytes answers) (0 + j)) found.bytes (failed_of words) (sym near) in
-    let own_size : length own ≡ 208 = length-map (answer_bytes answers) (λ row. slice_index row j) ∙ length-answer_bytes answers ∙ size in
-    subst (IsCodeword 208 16)
-    (same_number_lists found.bytes own (codeword.size ∙ sym own_size)
-    (λ k within.
-    let inside : k < 208 = omega (arith, within, codeword.size) in
-    (are.kept refl).are j blank_column (omega arith) k (omega (arith, ap length clear, length-replicate 208 false))
-    (ap (λ (l : List Bool). get_or l k false) clear ∙ get_or-replicate 208 k false false inside)
-    ∙ ap (λ (n : ℕ). get_or (column (answer_bytes answers) n) k 0) here)) codeword
-
 -- So the rows of outer parity that were taken are answered by what they are.
-pub taken-answered : (received : List (List ℕ)) (marks : List (List Bool)) (answers : List AnswerRow) (columns : List ColumnAnswer) → length answers ≡ 208 → length columns ≡ 182
+pub taken-answered : (received : List (List ℕ)) (marks : List (List Bool)) (answers : List AnswerRow) → length answers ≡ 208
     → AreAnswersBefore received marks answers 192 → AreAsReceivedBefore received marks answers 208
-    → AreColumnsAnswered answers columns true → position (λ (column : ColumnAnswer). not column.answered) columns ≡ None
+    → ((j : ℕ) → j < 182 → IsCodeword 208 16 (column (answer_bytes answers) j))
     → AreAnswersFrom received marks 0 answers
-taken-answered received marks answers columns size columns_size rows taken are none = record { are = λ i d within. moved i d (each i d (omega arith) (cases_lt i 192)) } where
+taken-answered received marks answers size rows taken codewords = record { are = λ i d within. moved i d (each i d (omega arith) (cases_lt i 192)) } where
   block : List (List ℕ)
   block = answer_bytes answers
 
@@ -88,7 +57,7 @@ taken-answered received marks answers columns size columns_size rows taken are n
   vanish : (k : ℕ) → k < 10 → (i : ℕ) → i < 208 → value (line block i) (power alpha k) ≡ 0
   vanish k under =
       rows_vanish 182 208 16 (power alpha k) block (omega arith) (omega arith) (length-answer_bytes answers ∙ size) wide
-      (λ j inside. column-codeword answers columns j size columns_size answered are none inside) (λ i before. (data-row i before).vanishes k under)
+      codewords (λ i before. (data-row i before).vanishes k under)
 
   each : (i : ℕ) (d : AnswerRow) → i < 208 → (i < 192) ⊎ (192 ≤ i) → IsAnswer (line received i) (marks_line marks i) (get_or answers i d)
   each i d below (inl before) = rows i d before

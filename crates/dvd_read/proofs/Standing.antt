@@ -1,5 +1,4 @@
 -- Rows and columns that are their own answers, and blocks whose columns correct no row that was answered.
-use Rattle.std.specs.Prelude.{slice_index_or}
 use Rattle.std.proofs.Common.{◌≡◌, ◌∙◌, ℕ, zero, suc, ◌+◌, ◌<◌, ◌≤◌, ◌==◌, Bool, true, false, if◌then◌else◌, MatchOption, List, [], ◌∷◌, length, map, get_or, replicate, slice_index, refl, sym, ap, subst, arith, Some, None, is_none, is_some}
 use Rattle.std.specs.declared.option.Option.{Option}
 use Rattle.std.proofs.lemmas.Bool.Decides.{nat_tests}
@@ -8,13 +7,13 @@ use Rattle.std.proofs.lemmas.Grind.{same_number_lists}
 use Rattle.coding.specs.Words.{IsCodeword, IsNear}
 use Rattle.coding.specs.Distance.{distance}
 use Rattle.rs_decode.specs.Errors.{error_count}
-use Rattle.coding.specs.Filling.{AgreeUnmarked, marked}
+use Rattle.coding.specs.Filling.{marked}
 use Rattle.coding.specs.Nearest.{near_of, vanishes_at_all}
 use Rattle.rs_decode.specs.declared.errors.Fix.{Fix}
 use Rattle.rs_decode.proofs.Counting.{IsNear-from_counts, error_count-self}
 use Rattle.rs_decode.proofs.NearSearch.{codeword-vanishes}
 use Rattle.coding.specs.Product.{column, line}
-use Rattle.dvd_capture.specs.Answers.{AreAnswers, IsAnswer, IsFix, marks_line}
+use Rattle.dvd_capture.specs.Answers.{IsAnswer, IsFix, marks_line}
 use Rattle.dvd_capture.specs.Rule.{HasAnswers}
 use Rattle.dvd_capture.specs.Works.{answers_of_work, marks_of_work, rows_of, stage_of}
 use Rattle.dvd_capture.specs.declared.work.Work.{Work}
@@ -23,9 +22,9 @@ use Rattle.coding.specs.TwoPass.{failed_of, from_columns}
 use Rattle.dvd_capture.specs.declared.parts.AnswerRow.{AnswerRow}
 use Rattle.dvd_capture.specs.declared.parts.ColumnAnswer.{ColumnAnswer}
 use Rattle.dvd_capture.proofs.Columns.{from_columns-line}
-use Rattle.dvd_read.specs.Parts.{AreKeptFrom, AreRowsHeld, AreRowsKept, answer_by, answer_word, answer_bytes}
+use Rattle.dvd_read.specs.Parts.{answer_by, answer_word, answer_bytes}
 use Rattle.dvd_read.specs.Inner.Found.{words_of_columns}
-use Rattle.dvd_read.specs.Inner.Standing.{AreCodewords}
+use Rattle.dvd_read.specs.Inner.Standing.{AreCodewords, AreKeptFrom, AreRowsKept}
 use Rattle.dvd_read.proofs.ColumnAnswers.{blank_column}
 use Rattle.dvd_read.proofs.RowAnswers.{blank_answer, row_fixed}
 
@@ -79,27 +78,6 @@ errors-counted row marks answer fix size is erased said =
     let fixed : IsFix row marks answer.bytes fix = fix-told row answer.bytes marks answer.fix fix is said in
     fixed.1 ∙ errors-differ row answer.bytes marks (omega (arith, size)) (sym fixed.2 ∙ erased)
 
--- ---- a column of which nothing was corrected that isn't marked
-
--- a first place that has no error doesn't differ
-same-step : (x y rest : ℕ) → (if y == x then 0 else 1) + rest ≡ 0 → y ≡ x
-same-step x y rest none = grind (arith, nat_tests)
-
--- a word with no errors agrees with what was received at all places that aren't marked
-pub none-corrected : (received word : List ℕ) (marks : List Bool) → length word ≡ length received → error_count received word marks ≡ 0
-    → AgreeUnmarked marks received word
-unfolding error_count
-none-corrected [] [] marks size none k within clear = refl
-none-corrected [] (y ∷ word) marks size none k within clear = absurd (omega (arith, size))
-none-corrected (x ∷ received) [] marks size none k within clear = absurd (omega (arith, size))
-none-corrected (x ∷ received) (y ∷ word) [] size none k within clear = absurd (omega arith)
-none-corrected (x ∷ received) (y ∷ word) (true ∷ marks) size none zero within clear = cc
-none-corrected (x ∷ received) (y ∷ word) (false ∷ marks) size none zero within clear = same-step x y (error_count received word marks) none
-none-corrected (x ∷ received) (y ∷ word) (true ∷ marks) size none (suc k) within clear =
-    none-corrected received word marks (omega (arith, size)) (omega (arith, none)) k (omega arith) clear
-none-corrected (x ∷ received) (y ∷ word) (false ∷ marks) size none (suc k) within clear =
-    none-corrected received word marks (omega (arith, size)) (omega (arith, none)) k (omega arith) clear
-
 -- ---- rows that were answered
 
 -- an answer that isn't missing is its bytes
@@ -113,7 +91,7 @@ fix-by None bytes answered = cc
 fix-by (Some fix) bytes answered = refl
 
 -- the mark of row i says whether it has an answer
-failed-at : (answers : List AnswerRow) (i : ℕ) (d : AnswerRow) → i < length answers
+pub failed-at : (answers : List AnswerRow) (i : ℕ) (d : AnswerRow) → i < length answers
     → get_or (failed_of (map answer_word answers)) i false ≡ is_none (answer_word (get_or answers i d))
 failed-at answers i d within =
     get_or-map is_none (map answer_word answers) i None false (rw length-map within)
@@ -193,38 +171,7 @@ kept-vanish answers block i size codewords kept below clear =
     ap (vanishes_at_all 10) (kept i blank_answer below answered)
     ∙ codeword-vanishes 182 10 (get_or answers i blank_answer).bytes (answered-codeword answers i blank_answer below codewords answered)
 
--- ---- failed rows, into whose answers the block's bytes are written
-
--- no fix of the answers is another one
-abbrev pub HaveFixes : List AnswerRow → List AnswerRow → Type 0
-HaveFixes old new = (i : ℕ) (default : AnswerRow) → (slice_index_or new i default).fix ≡ (slice_index_or old i default).fix
-
--- the rows that were answered have their bytes
-abbrev pub HaveBytes : List AnswerRow → List AnswerRow → Type 0
-HaveBytes old new = (i : ℕ) (default : AnswerRow) → is_some (slice_index_or old i default).fix ≡ true → (slice_index_or new i default).bytes ≡ (slice_index_or old i default).bytes
-
--- the bytes of a failed row's answer don't count
-filled-answer : (row word other : List ℕ) (marks : List Bool) (fix : Option Fix) → (is_some fix ≡ true → other ≡ word)
-    → MatchOption fix (near_of 182 10 row marks ≡ None) (IsFix row marks word) → MatchOption fix (near_of 182 10 row marks ≡ None) (IsFix row marks other)
-filled-answer row word other marks None same said = said
-filled-answer row word other marks (Some fix) same said = subst (λ (w : List ℕ). IsFix row marks w fix) (sym (same refl)) said
-
--- so the answers are those of the first pass still
-pub filled-answers : (received : List (List ℕ)) (marks : List (List Bool)) (old new : List AnswerRow) → HaveFixes old new → HaveBytes old new
-    → AreAnswers received marks old → AreAnswers received marks new
-filled-answers received marks old new fixes bytes said i d below =
-    subst (λ (f : Option Fix). MatchOption f (near_of 182 10 (line received i) (marks_line marks i) ≡ None) (IsFix (line received i) (marks_line marks i) (get_or new i d).bytes)) (sym (fixes i d))
-    (filled-answer (line received i) (get_or old i d).bytes (get_or new i d).bytes (marks_line marks i) (get_or old i d).fix (bytes i d) (said i d below))
-
--- and those of all rows hold the block
-pub rows-held : (old new : List AnswerRow) (block : List (List ℕ)) → AreRowsKept old block → HaveBytes old new
-    → ((i : ℕ) (default : AnswerRow) → i < 208 → is_some (slice_index_or old i default).fix ≡ false → (slice_index_or new i default).bytes ≡ line block i)
-    → AreRowsHeld new block
-rows-held old new block kept bytes failed i d below = by (is_some (get_or old i d).fix) refl
-  where
-    by : (is : Bool) → is_some (get_or old i d).fix ≡ is → line block i ≡ (get_or new i d).bytes
-    by true is = kept i d below is ∙ sym (bytes i d is)
-    by false is = sym (failed i d below is)
+-- ---- what is counted
 
 -- what is counted of row i of a captured block
 pub row-counted : (work : Work) (i : ℕ) (row : List ℕ) (default : AnswerRow) (block : List (List ℕ)) (count : ℕ) → i < 208 → HasAnswers (stage_of work)
@@ -237,8 +184,3 @@ row-counted work i row default block count below stage is counted =
     let width : length marks ≡ 182 = marks-width work.marks i below in
     let said : IsAnswer row marks (get_or answers i default) = subst (λ (r : List ℕ). IsAnswer r marks (get_or answers i default)) (sym is) (work.answered stage i default below) in
     counted marks width said ∙ ap (λ (r : List ℕ). distance r (line block i)) is
-
--- row i of the answers' bytes, where these hold the block
-pub held-line : (answers : List AnswerRow) (block : List (List ℕ)) (i : ℕ) → length answers ≡ 208 → AreRowsHeld answers block → i < 208 → line (answer_bytes answers) i ≡ line block i
-held-line answers block i size held below =
-    get_or-map bytes answers i blank_answer [] (omega arith) ∙ sym (held i blank_answer below)

@@ -5,60 +5,171 @@
 //! Patches are the bytes to add in the failed rows, found for 32 columns at once: each is tested before it counts. A
 //! lane of `any_of` is 0 exactly where that lane of each vector is: so one vector says which of 32 columns are
 //! codewords. In clauses, of the columns from `start` on: `AreOwnFrom`, they have the bytes of the rows' answers, and
-//! `AreCopied`, so far those of the rows before one; `AreColumnsFrom`, they are answered; `AreKeptFrom`, they have the
-//! bytes of the rows that didn't fail. `Completes` says that patches not noted as wrong make a column a codeword.
-ghost use Rattle.std.specs.Prelude.{◌≡◌, ℕ, ◌+◌, ◌<◌, ◌≤◌, List, IsTrue, true, false, is_some, length, map, slice_index, slice_index_or, position, not, MatchOption};
-ghost use Rattle.coding.specs.Field.{alpha, power};
-ghost use Rattle.coding.specs.Words.{IsCodeword, value};
+//! `AreCopied`, so far those of the rows before one; `AreColumnsFrom`, they are answered; `AreColumnsHeld`, the rows'
+//! answers have all their bytes. `Completes` says that patches not noted as wrong make a column a codeword, and
+//! `AreCompleted` that columns of the rows' answers are what the second pass answers to them.
+ghost use Rattle.std.specs.Prelude.{◌≡◌, ℕ, ◌+◌, ◌<◌, ◌≤◌, List, All, IsTrue, true, false, length, map, slice_index, slice_index_or, take, position, not, MatchOption};
+ghost use Rattle.coding.specs.Field.{alpha, plus, power};
+ghost use Rattle.coding.specs.Words.{IsByte, IsCodeword, value};
 ghost use Rattle.rs_code.specs.Syndromes.{syndromes_of};
 ghost use Rattle.coding.specs.TwoPass.{failed_of, from_columns};
 ghost use Rattle.coding.specs.Nearest.{near_of, vanishes_at_all};
-ghost use Rattle.coding.specs.Filling.{AgreeUnmarked, marked};
+ghost use Rattle.coding.specs.Filling.{marked};
 ghost use Rattle.coding.specs.Product.{column, line, place};
-ghost use Rattle.rs_decode.specs.Patches.{Completes};
-ghost use Rattle.dvd_read.specs.Parts.{AreColumnsFrom, AreKeptFrom, answer_word, column_word};
+ghost use Rattle.rs_decode.specs.Patches.{Completes, patched};
+ghost use Rattle.dvd_read.specs.Parts.{AreColumnsFrom, AreSameAnswers, answer_bytes, answer_word, column_word};
 ghost use Rattle.dvd_read.specs.Inner.Found.{AreRightFrom, IsFirstWrongRow, words_of_columns};
 ghost use Rattle.dvd_read.specs.Calls.{AreColumnsAnswered};
-ghost use Rattle.dvd_read.specs.Inner.Standing.{AreColumnsOf, AreCopied, AreOwnFrom};
+ghost use Rattle.dvd_read.specs.Inner.Standing.{AreColumnsOf, AreCompleted, AreCopied, AreOwnFrom};
 
 use crate::lanes::lane_of;
-use crate::rows::MOST_FAILED;
+use crate::rows::{MOST_FAILED, mark_failed};
 use crate::squares::copy_squares;
 use arrayvec::ArrayVec;
 use dvd_capture::parts::{AnswerRow, ColumnAnswer};
 use rs_code::Po;
-use rs_decode::{Erasures, Patches, decode_from};
-use rs_lanes::{Thirds, any_of, column_values_by, load, load_transposed, store, transposed_values};
+use rs_decode::{Erasures, Patches, decode_from, prove_bytes};
+use rs_lanes::{
+    Thirds, any_of, are_zeros, column_values_by, load, load_transposed, store, transposed_values,
+};
 use std::simd::prelude::*;
 
-/// Answers the columns from `start` on, one for each place of a piece of the columns. Answers whether they correct no
-/// row that was answered; `false` claims nothing, and comes too where a column has no answer. Several workers have a
-/// piece each; one alone has all columns. The code is made once by the caller, since its generator polynomial is
-/// computed.
+/// Answers all columns of the rows' answers, on this thread. Where bytes added in the failed rows make each column a
+/// codeword, they are added in the rows' answers, of which the columns are then copied. Answers whether this is so: the
+/// rows' answers have all bytes of the columns then. If not, the columns are answered one by one. Where more rows
+/// failed than the second pass can correct, nothing is answered, and `begin` isn't called.
+pub(crate) fn answer_all_columns<F: FnOnce()>(
+    answers: &mut [AnswerRow],
+    columns: &mut [ColumnAnswer],
+    begin: F,
+) -> bool
+    requires rows { length answers.old ≡ 208 }
+    requires columns { length columns.old ≡ 182 }
+    requires callable { F.IsAlwaysCallable begin }
+    ensures same { AreSameAnswers answers.old answers.new }
+    ensures answered { AreColumnsAnswered answers.new columns.new result }
+{
+    let mut failed = [false; 208];
+    mark_failed(answers, &mut failed);
+    // What all columns need of the failed rows' places is computed once.
+    let Some(erasures) = Erasures::shared(&failed, usize::from(MOST_FAILED)) else {
+        return false;
+    };
+    begin();
+    let are_completed = complete_rows(&erasures, answers);
+    if are_completed {
+        copy_columns(answers, 0, columns);
+        mark_answered(columns);
+    } else {
+        answer_columns(&Po::new(), answers, &failed, 0, columns);
+    }
+    are_completed
+}
+
+/// Answers the columns from `start` on, one for each place of a piece of the columns. Several workers have a piece
+/// each. The code is made once by the caller, since its generator polynomial is computed.
 pub fn answer_columns(
     code: &Po,
     answers: &[AnswerRow],
     failed: &[bool; 208],
     start: usize,
     piece: &mut [ColumnAnswer],
-) -> bool
+)
     requires rows { length answers.now ≡ 208 }
     requires marks { failed.now ≡ failed_of (map answer_word answers.now) }
     requires columns { start + length piece.old ≤ 182 }
-    ensures columns { AreColumnsFrom (map answer_word answers.now) start piece.new }
-    ensures kept { IsTrue result → AreKeptFrom answers.now start piece.new }
+    ensures { AreColumnsFrom (map answer_word answers.now) start piece.new }
 {
     copy_columns(answers, start, piece);
-    // Callers ask `few_failed` before, so that no column is copied in vain. The test is here again because the clauses
-    // hold of any number of failed rows: with more than sixteen no column has a codeword near it. `shared` computes
-    // once what all columns need of the failed rows' places.
+    // Callers ask how many rows failed before, so that no column is copied in vain. The test is here again because the
+    // clause holds of any number of failed rows: with more than sixteen no column has a codeword near it.
     match Erasures::shared(failed, usize::from(MOST_FAILED)) {
         Some(erasures) => answer_copied(code, answers, &erasures, start, piece),
-        None => {
-            leave_unanswered(piece);
-            false
+        None => leave_unanswered(piece),
+    }
+}
+
+// Adds bytes in the failed rows' answers so that all columns are codewords: they are found for 32 columns at once, and
+// lie side by side in a row. Answers whether all columns are codewords then. After `false` some bytes may be added that
+// are of no column's answer: those of failed rows don't count.
+fn complete_rows(erasures: &Erasures<208>, answers: &mut [AnswerRow]) -> bool
+    requires rows { length answers.old ≡ 208 }
+    requires marks { erasures.now.marks ≡ failed_of (map answer_word answers.old) }
+    requires within { marked erasures.now.marks ≤ 16 }
+    ensures same { AreSameAnswers answers.old answers.new }
+    ensures completed { IsTrue result → AreCompleted answers.new 0 182 }
+{
+    // Room for all groups, so that it is set to zeros once.
+    let mut thirds = [[u8x32::splat(0); 3]; 85];
+    for group in 0..6usize {
+        // 182 is no multiple of 32: the last 32 columns begin at column 150, and some are looked at twice.
+        if !complete_group(erasures, &mut thirds, (32 * group).min(150), answers) {
+            return false;
         }
     }
+    true
+}
+
+// The same for the 32 columns from `left` on. All columns before them stay.
+fn complete_group(
+    erasures: &Erasures<208>,
+    thirds: &mut Thirds,
+    left: usize,
+    answers: &mut [AnswerRow],
+) -> bool
+    requires rows { length answers.old ≡ 208 }
+    requires marks { erasures.now.marks ≡ failed_of (map answer_word answers.old) }
+    requires within { marked erasures.now.marks ≤ 16 }
+    requires columns { left + 32 ≤ 182 }
+    ensures same { AreSameAnswers answers.old answers.new }
+    ensures completed { IsTrue result → AreCompleted answers.new left (left + 32) }
+    ensures before { (j : ℕ) → j < left → column (answer_bytes answers.new) j ≡ column (answer_bytes answers.old) j }
+{
+    let values = column_values_by(thirds, answers, left);
+    if are_zeros(any_of(&values)) {
+        return true;
+    }
+    let patches = Patches::new(erasures, &values);
+    let are_right = patches.are_right();
+    if are_right {
+        add_patches(erasures, &patches, left, answers);
+    }
+    are_right
+}
+
+// Adds to the failed rows' answers the bytes for the 32 columns from `left` on. The columns before them stay.
+fn add_patches(erasures: &Erasures<208>, patches: &Patches, left: usize, answers: &mut [AnswerRow])
+    requires rows { length answers.old ≡ 208 }
+    requires marks { erasures.now.marks ≡ failed_of (map answer_word answers.old) }
+    requires within { marked erasures.now.marks ≤ 16 }
+    requires columns { left + 32 ≤ 182 }
+    requires bytes { (n : ℕ) → n < 32 → All IsByte (column (answer_bytes answers.old) (left + n)) }
+    ensures same { AreSameAnswers answers.old answers.new }
+    ensures bytes { (n : ℕ) → n < 32 → All IsByte (column (answer_bytes answers.new) (left + n)) }
+    ensures patched { (n : ℕ) → n < 32 → column (answer_bytes answers.new) (left + n)
+        ≡ patched (column (answer_bytes answers.old) (left + n)) erasures.now.marks (take (marked erasures.now.marks) (column patches.now.bytes n)) }
+    ensures before { (j : ℕ) → j < left → column (answer_bytes answers.new) j ≡ column (answer_bytes answers.old) j }
+{
+    for (i, place) in erasures.places().iter().enumerate() {
+        add_lanes(
+            patches.lanes(i),
+            &mut answers[usize::from(*place)].bytes,
+            left,
+        );
+    }
+}
+
+// Adds 32 bytes to those of a row from place `at` on. Also ensures what the type of the row says.
+fn add_lanes(lanes: u8x32, row: &mut [u8; 182], at: usize)
+    requires lanes { length lanes ≡ 32 }
+    requires at { at + 32 ≤ 182 }
+    ensures size { length row.new ≡ 182 }
+    ensures bytes { All IsByte row.new }
+    ensures added { (n : ℕ) → n < 32 → slice_index row.new (at + n) ≡ plus (slice_index row.old (at + n)) (slice_index lanes n) }
+    ensures before { (j : ℕ) → j < at → slice_index row.new j ≡ slice_index row.old j }
+{
+    store(load(row, at) ^ lanes, row, at);
+    prove_bytes(row);
 }
 
 // Writes columns of the rows' bytes, of failed rows too: sixteen at a time, the lanes of a vector that squares have.
@@ -142,15 +253,31 @@ pub(crate) fn copy_transposed(transposed: &[u8x32; 182], top: usize, columns: &m
     }
 }
 
-/// Answers all columns where their bytes are copied already and no row failed. Answers whether they correct no row.
-pub(crate) fn answer_copied_columns(answers: &[AnswerRow], columns: &mut [ColumnAnswer]) -> bool
-    requires rows { length answers.now ≡ 208 }
-    requires columns { length columns.old ≡ 182 }
-    requires answered { (i : ℕ) (default : AnswerRow) → i < 208 → is_some (slice_index_or answers.now i default).fix ≡ true }
-    requires own { AreOwnFrom answers.now 0 columns.old }
-    ensures { AreColumnsAnswered answers.now columns.new result }
+/// Whether the columns of the rows' answers are codewords as they are.
+pub(crate) fn are_codewords(answers: &[AnswerRow]) -> bool
+    requires { length answers.now ≡ 208 }
+    ensures { IsTrue result → (j : ℕ) → j < 182 → IsCodeword 208 16 (column (answer_bytes answers.now) j) }
 {
-    answer_copied(&Po::new(), answers, &Erasures::none(), 0, columns)
+    let mut thirds = [[u8x32::splat(0); 3]; 85];
+    for group in 0..6usize {
+        // The last 32 columns begin at column 150.
+        let values = column_values_by(&mut thirds, answers, (32 * group).min(150));
+        if !are_zeros(any_of(&values)) {
+            return false;
+        }
+    }
+    true
+}
+
+/// Notes that all columns are answered, by the bytes that they have.
+pub(crate) fn mark_answered(columns: &mut [ColumnAnswer])
+    ensures size { length columns.new ≡ length columns.old }
+    ensures answered { (j : ℕ) (default : ColumnAnswer) → j < length columns.new → (slice_index_or columns.new j default).answered ≡ true }
+    ensures bytes { (j : ℕ) (default : ColumnAnswer) → (slice_index_or columns.new j default).bytes ≡ (slice_index_or columns.old j default).bytes }
+{
+    for column in columns.iter_mut() {
+        column.answered = true;
+    }
 }
 
 // Writes 32 bytes of a column. Also ensures its length, which the type of the array has and a slice wouldn't.
@@ -172,40 +299,40 @@ fn leave_unanswered(piece: &mut [ColumnAnswer])
     }
 }
 
-// Answers columns whose bytes are copied, with the failed rows marked. Answers whether they correct no row that was
-// answered.
+// Answers columns whose bytes are copied, with the failed rows marked.
 fn answer_copied(
     code: &Po,
     answers: &[AnswerRow],
     erasures: &Erasures<208>,
     start: usize,
     piece: &mut [ColumnAnswer],
-) -> bool
+)
     requires rows { length answers.now ≡ 208 }
     requires marks { erasures.now.marks ≡ failed_of (map answer_word answers.now) }
     requires within { marked erasures.now.marks ≤ 16 }
     requires columns { start + length piece.old ≤ 182 }
     requires own { AreOwnFrom answers.now start piece.old }
-    ensures columns { AreColumnsFrom (map answer_word answers.now) start piece.new }
-    ensures kept { IsTrue result → AreKeptFrom answers.now start piece.new }
+    ensures { AreColumnsFrom (map answer_word answers.now) start piece.new }
 {
     // Room for all groups, so that it is set to zeros once.
     let mut thirds = [[u8x32::splat(0); 3]; 85];
-    let mut are_kept = true;
     for group in 0..piece.len().div_ceil(32) {
         let at = 32 * group;
         let end = piece.len().min(at + 32);
-        let columns = &mut piece[at..end];
-        // Called before the `&&`, since each group has to be answered.
-        let group_is_kept = answer_group(code, answers, erasures, &mut thirds, start + at, columns);
-        are_kept = are_kept && group_is_kept;
+        answer_group(
+            code,
+            answers,
+            erasures,
+            &mut thirds,
+            start + at,
+            &mut piece[at..end],
+        );
     }
-    are_kept
 }
 
-// Answers at most 32 of these columns, by their values. Answers whether they correct no row that was answered.
-// The values that test a column are its syndromes too, so that a column isn't read once more to be decoded. Where rows
-// failed, all columns need bytes in these rows: they are found for 32 at once. What the thirds were isn't read.
+// Answers at most 32 of these columns, by their values. The values that test a column are its syndromes too, so that a
+// column isn't read once more to be decoded. Where rows failed, all columns need bytes in these rows: they are found
+// for 32 at once. What the thirds were isn't read.
 fn answer_group(
     code: &Po,
     answers: &[AnswerRow],
@@ -213,7 +340,7 @@ fn answer_group(
     thirds: &mut Thirds,
     start: usize,
     piece: &mut [ColumnAnswer],
-) -> bool
+)
     requires rows { length answers.now ≡ 208 }
     requires marks { erasures.now.marks ≡ failed_of (map answer_word answers.now) }
     requires within { marked erasures.now.marks ≤ 16 }
@@ -222,7 +349,6 @@ fn answer_group(
     requires own { AreOwnFrom answers.now start piece.old }
     ensures size { length piece.new ≡ length piece.old }
     ensures columns { AreColumnsFrom (map answer_word answers.now) start piece.new }
-    ensures kept { IsTrue result → AreKeptFrom answers.now start piece.new }
 {
     // The values of 32 columns are found even where fewer follow: the last 32 begin at column 150. They are those of
     // the rows' answers, where the bytes of 32 columns lie side by side, and so of the columns as they were copied.
@@ -230,16 +356,14 @@ fn answer_group(
     let values = column_values_by(thirds, answers, left);
     let wrong = any_of(&values);
     let patches = patches_for(erasures, &values, wrong);
-    let mut are_kept = true;
     for (k, column) in piece.iter_mut().enumerate() {
         let n = start - left + k;
         // What is proposed is tested. Where it isn't right, the column is as it was, and is decoded by itself: only
         // then are its syndromes listed.
-        let is_kept = fill_column(erasures, &patches, n, wrong[n], column)
-            || decode_column(code, erasures, lane_of(&values, n), column);
-        are_kept = are_kept && is_kept;
+        if !fill_column(erasures, &patches, n, wrong[n], column) {
+            decode_column(code, erasures, lane_of(&values, n), column);
+        }
     }
-    are_kept
 }
 
 // What 32 columns with these values lack in the failed rows. Nothing is proposed where all are codewords, whose lanes
@@ -258,7 +382,7 @@ fn patches_for(erasures: &Erasures<208>, values: &[u8x32; 16], wrong: u8x32) -> 
 
 // Answers one column as it is, or with the bytes that lane `n` has for it in the failed rows; `wrong` is zero where it
 // is a codeword. A codeword is its own answer, also where rows failed: each costs one, and at most sixteen did. Answers
-// whether the column could be answered so, and nothing is corrected in rows that aren't marked.
+// whether the column could be answered so.
 fn fill_column(
     erasures: &Erasures<208>,
     patches: &Patches,
@@ -271,7 +395,6 @@ fn fill_column(
     requires wrong { wrong ≡ 0 → IsCodeword 208 16 column.old.bytes }
     requires completes { Completes patches.now erasures.now.marks n column.old.bytes }
     ensures answered { IsTrue result → column_word column.new ≡ near_of 208 16 column.old.bytes erasures.now.marks }
-    ensures kept { IsTrue result → AgreeUnmarked erasures.now.marks column.old.bytes column.new.bytes }
     ensures same { result ≡ false → column.new.bytes ≡ column.old.bytes }
 {
     if wrong == 0 {
@@ -282,29 +405,20 @@ fn fill_column(
     column.answered
 }
 
-// Answers one column by its syndromes, in its place: its bytes are a copy, so nothing received is lost. Answers whether
-// nothing is corrected in rows that aren't marked. A codeword that differs in a row that was answered is an answer too,
-// but then the rows have to be tested. `errors` counts such places alone, and not the failed rows. A column without an
-// answer is as it was.
+// Answers one column by its syndromes, in its place: its bytes are a copy, so nothing received is lost. A column that
+// has no answer is as it was.
 fn decode_column(
     code: &Po,
     erasures: &Erasures<208>,
     syndromes: ArrayVec<u8, 32>,
     column: &mut ColumnAnswer,
-) -> bool
+)
     requires { syndromes.items ≡ syndromes_of 16 column.old.bytes }
-    ensures answered { column_word column.new ≡ near_of 208 16 column.old.bytes erasures.now.marks }
-    ensures kept { IsTrue result → AgreeUnmarked erasures.now.marks column.old.bytes column.new.bytes }
+    ensures { column_word column.new ≡ near_of 208 16 column.old.bytes erasures.now.marks }
 {
     match decode_from(code, erasures, syndromes, &mut column.bytes) {
-        Ok(fix) => {
-            column.answered = true;
-            fix.errors == 0
-        }
-        Err(_) => {
-            column.answered = false;
-            false
-        }
+        Ok(_) => column.answered = true,
+        Err(_) => column.answered = false,
     }
 }
 

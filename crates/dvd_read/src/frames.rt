@@ -46,15 +46,15 @@ pub(crate) enum FrameSource {
 }
 
 impl FrameSource {
-    /// Where the rows of a block are read of which so many bytes were fixed, and whose answered rows are kept or may
-    /// not be.
-    pub(crate) fn of(bytes: u32, are_kept: bool) -> FrameSource
+    /// Where the rows of a block are read of which so many bytes were fixed, and which the rows' answers hold or may
+    /// not.
+    pub(crate) fn of(bytes: u32, are_held: bool) -> FrameSource
         ensures received { result ≡ FrameSource.Received → bytes ≡ 0 }
-        ensures answers { result ≡ FrameSource.Answers → IsTrue are_kept }
+        ensures answers { result ≡ FrameSource.Answers → IsTrue are_held }
     {
         if bytes == 0 {
             FrameSource::Received
-        } else if are_kept {
+        } else if are_held {
             FrameSource::Answers
         } else {
             FrameSource::Columns
@@ -63,7 +63,7 @@ impl FrameSource {
 }
 
 /// Checks the frames as `sectors` does, of rows that are read from this source. The source changes no answer, only
-/// time. It is for callers that answered the passes and know whether the rows are kept, as `end_reading` does.
+/// time. It is for callers that answered the passes and know whether the answers hold the block, as `end_reading` does.
 pub(crate) fn sectors_of_block(
     work: &mut Work,
     plan: &BlockPlan,
@@ -186,11 +186,13 @@ fn get_frame(
     }
 }
 
-// Writes frame `f` of the rows' answers, which hold the block.
+// Writes frame `f` of the rows' answers, which hold the block. Also ensures that they have 182 bytes, as
+// `copy_received` does.
 fn copy_held(answers: &[AnswerRow], f: usize, frame: &mut [u8; 2064])
     requires rows { length answers.now ≡ 208 }
     requires frame { f < 16 }
-    ensures { frame.new ≡ frame_of (answer_bytes answers.now) f }
+    ensures frame { frame.new ≡ frame_of (answer_bytes answers.now) f }
+    ensures widths { (q : ℕ) → q < 12 → length (line (answer_bytes answers.now) (12 * f + q)) ≡ 182 }
 {
     for q in 0..12usize {
         put_data(frame, 172 * q, &answers[12 * f + q].bytes);

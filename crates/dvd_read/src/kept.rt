@@ -4,20 +4,44 @@
 //! that the columns from one place to the one before another have the bytes of a row's answer. A vector is a list
 //! there, whose length its type doesn't say: so clauses say that there are 32 lanes. A lane of `any_of` is 0 exactly
 //! where that lane of each vector is.
-ghost use Rattle.std.specs.Prelude.{◌≡◌, ◌↔◌, ℕ, ◌+◌, ◌<◌, ◌≤◌, IsTrue, false, length, map, slice_index, slice_index_or};
-ghost use Rattle.coding.specs.TwoPass.{failed_of};
+ghost use Rattle.std.specs.Prelude.{◌≡◌, ◌↔◌, ℕ, ◌+◌, ◌<◌, ◌≤◌, IsTrue, false, is_some, length, map, slice_index, slice_index_or};
+ghost use Rattle.coding.specs.Product.{line};
+ghost use Rattle.coding.specs.TwoPass.{failed_of, from_columns};
+ghost use Rattle.dvd_capture.specs.declared.parts.AnswerRow.{AnswerRow};
 ghost use Rattle.dvd_capture.specs.declared.parts.ColumnAnswer.{ColumnAnswer};
-ghost use Rattle.dvd_read.specs.Parts.{AreKeptFrom, answer_word};
-ghost use Rattle.dvd_read.specs.Inner.Standing.{IsRowKept};
+ghost use Rattle.dvd_read.specs.Parts.{AreColumnsHeld, AreSameAnswers, answer_word};
+ghost use Rattle.dvd_read.specs.Inner.Found.{words_of_columns};
+ghost use Rattle.dvd_read.specs.Inner.Standing.{AreKeptFrom, IsRowKept};
 
+use crate::columns::read_row;
 use dvd_capture::parts::{AnswerRow, ColumnAnswer};
 use rs_lanes::{any_of, load, load_transposed};
 use std::simd::prelude::*;
 
-/// Whether the columns of a block have, in each row that didn't fail, the bytes of the rows' answers.
-/// Only passes with several workers ask this. One worker alone knows it of `answer_columns`, without comparing. It ends
-/// at the first difference, since then all rows are tested in any case.
-pub fn are_kept(answers: &[AnswerRow], failed: &[bool; 208], columns: &[ColumnAnswer]) -> bool
+/// Writes the failed rows of the columns' block into their answers, where the columns have, in each row that didn't
+/// fail, the bytes of the rows' answers. Answers whether they have: then the answers have all bytes of the columns.
+/// Only passes with several workers ask this: a worker who answers all columns completes the rows as he does so.
+pub fn hold_columns(
+    answers: &mut [AnswerRow],
+    failed: &[bool; 208],
+    columns: &[ColumnAnswer],
+) -> bool
+    requires rows { length answers.old ≡ 208 }
+    requires marks { failed.now ≡ failed_of (map answer_word answers.old) }
+    requires columns { length columns.now ≡ 182 }
+    ensures same { AreSameAnswers answers.old answers.new }
+    ensures held { IsTrue result → AreColumnsHeld answers.new columns.now }
+{
+    let are_held = are_kept(answers, failed, columns);
+    if are_held {
+        fill_failed(answers, columns);
+    }
+    are_held
+}
+
+// Whether the columns of a block have, in each row that didn't fail, the bytes of the rows' answers. It ends at the
+// first difference, since then all rows are tested in any case.
+fn are_kept(answers: &[AnswerRow], failed: &[bool; 208], columns: &[ColumnAnswer]) -> bool
     requires rows { length answers.now ≡ 208 }
     requires marks { failed.now ≡ failed_of (map answer_word answers.now) }
     requires columns { length columns.now ≡ 182 }
@@ -30,6 +54,21 @@ pub fn are_kept(answers: &[AnswerRow], failed: &[bool; 208], columns: &[ColumnAn
         }
     }
     true
+}
+
+// Writes into the answer of each failed row its row of the columns' block. A column has one byte of a row, so a row is
+// gathered from all of them: once, for all that read it after this. The others stay.
+fn fill_failed(answers: &mut [AnswerRow], columns: &[ColumnAnswer])
+    requires columns { length columns.now ≡ 182 }
+    ensures same { AreSameAnswers answers.old answers.new }
+    ensures failed { (i : ℕ) (default : AnswerRow) → i < length answers.old → i < 208 → is_some (slice_index_or answers.old i default).fix ≡ false
+        → (slice_index_or answers.new i default).bytes ≡ line (from_columns (words_of_columns columns.now)) i }
+{
+    for i in 0..answers.len().min(208) {
+        if answers[i].fix.is_none() {
+            read_row(columns, i, &mut answers[i].bytes);
+        }
+    }
 }
 
 // The same of the 32 rows from `top` on.

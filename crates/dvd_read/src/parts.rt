@@ -2,7 +2,7 @@
 //! at once. `two_pass` and `read_block` are made of the same calls, with one piece each. One frame is salvaged by
 //! itself, for whoever asks which of the sixteen are.
 pub use crate::columns::answer_columns;
-pub use crate::kept::are_kept;
+pub use crate::kept::hold_columns;
 pub use crate::passes::{answer_block, end_passes, few_failed};
 pub use crate::reading::end_reading;
 pub use crate::rescue::salvage_frame;

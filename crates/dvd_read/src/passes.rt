@@ -1,8 +1,9 @@
 //! Both passes over a captured block, and the test of the rows. A row or column is answered where a codeword is near
-//! it; a row that isn't has failed. The columns keep the rows where they change no byte of a row that was answered.
+//! it; a row that isn't has failed. Rows' answers hold the block where they have all bytes of the columns: no row that
+//! was answered was corrected, and failed rows have the columns' bytes in their answers.
 //! A `Work` has received rows, marks, answers of rows and columns, and a stage: at Fetched no answer counts, at Refused
-//! the rows' answers do, and at Fixed the columns are the block as well. In clauses `AreKeptFrom` says of columns, and
-//! `AreRowsKept` of a block, that the answered rows are kept.
+//! the rows' answers do, and at Fixed the columns are the block as well. In clauses `AreColumnsHeld` says that the
+//! answers of rows have the bytes of columns, and `AreRowsHeld` that they have those of a block.
 ghost use Rattle.std.specs.Prelude.{◌≡◌, ℕ, ◌<◌, ◌≤◌, Bool, List, None, Some, true, false, is_some, length, map, not, position, slice_index_or, IsTrue, MatchOption, IfErr, IfOk, OnErr, OnOk};
 ghost use Rattle.coding.specs.Distance.{distance};
 ghost use Rattle.coding.specs.Filling.{marked};
@@ -17,11 +18,13 @@ ghost use Rattle.dvd_capture.specs.Kept.{KeepsReceived};
 ghost use Rattle.dvd_read.specs.Calls.{AreColumnsAnswered, AreBothAnswered, IsDecoded};
 ghost use Rattle.dvd_decoding.specs.Causes.{two_pass_cause};
 ghost use Rattle.coding.specs.Found.{block_differences, block_found};
-ghost use Rattle.dvd_read.specs.Parts.{AreAnswersFrom, AreColumnsFrom, AreKeptFrom, AreRowsHeld, AreRowsKept, answer_word};
+ghost use Rattle.dvd_read.specs.Parts.{AreAnswersFrom, AreColumnsFrom, AreColumnsHeld, AreRowsHeld, answer_word};
 ghost use Rattle.dvd_read.specs.Inner.Found.{words_of_columns};
 ghost use Rattle.dvd_read.specs.Inner.Standing.{AreAnswersBefore, AreAsReceivedBefore, AreCodewords, AreOwnFrom};
 
-use crate::columns::{answer_columns, answer_copied_columns, first_missing, first_wrong, read_row};
+use crate::columns::{
+    answer_all_columns, are_codewords, first_missing, first_wrong, mark_answered, read_row,
+};
 use crate::fixed::Fixed;
 use crate::rows::{
     MOST_FAILED, answer_rows, are_few, count_failed, mark_failed, take_data_rows, take_parity_rows,
@@ -29,7 +32,7 @@ use crate::rows::{
 use dvd_capture::parts::{AnswerRow, ColumnAnswer, Marks, Received};
 use dvd_capture::{Stage, Work};
 use dvd_decoding::Cause;
-use rs_code::{Pi, Po};
+use rs_code::Pi;
 
 /// Decodes a captured block: each received row is answered by the codeword near it or fails; each column of the
 /// answers, with the failed rows marked, by the codeword near it; and the block of these columns must have codewords in
@@ -42,15 +45,16 @@ pub fn two_pass(work: &mut Work) -> Result<Fixed, Cause>
 
     ensures { IsDecoded work.old work.new result }
 {
-    let are_kept = answer_block(work, || ());
-    end_passes(work, are_kept)
+    let are_held = answer_block(work, || ());
+    end_passes(work, are_held)
 }
 
-/// Answers the rows and columns of a captured block, on this thread. Answers whether the columns correct no row that was
-/// answered; `false` claims nothing. `begin_columns` is called once, where the second pass begins, and not at all where
-/// more rows failed than it can correct: what it does is the caller's, so no clause says when it is called.
-/// What was found is set by `end_passes`: the two are apart since several workers answer likewise in dvd_par, and end by
-/// the same call.
+/// Answers the rows and columns of a captured block, on this thread. Answers whether the rows' answers then have all
+/// bytes of the columns, those of failed rows too; `false` claims nothing. `begin_columns` is called once, where the
+/// second pass begins, and not at all where more rows failed than it can correct: what it does is the caller's, so no
+/// clause says when it is called.
+/// What was found is set by `end_passes`: the two are apart since several workers answer likewise in dvd_par, and end
+/// by the same call.
 pub fn answer_block<F: FnOnce()>(work: &mut Work, begin_columns: F) -> bool
     requires stage { HasBlock (stage_of work.old) }
     requires callable { F.IsAlwaysCallable begin_columns }
@@ -71,7 +75,7 @@ pub fn answer_block<F: FnOnce()>(work: &mut Work, begin_columns: F) -> bool
 
 // Answers all rows and columns, of buffers that are lent one by one. Where a block is as it was recorded, the rows of
 // outer parity aren't tested: these sixteen are codewords where all other rows are and all columns. Where it isn't,
-// they are answered as any other rows, and then all columns once more.
+// they are answered as any other rows, and then all columns.
 fn answer_both<F: FnOnce()>(
     received: &Received,
     marks: &Marks,
@@ -90,7 +94,8 @@ fn answer_both<F: FnOnce()>(
         return answer_all_columns(answers, columns, begin_columns);
     }
     begin_columns();
-    if answer_copied_columns(answers, columns) && first_missing(columns).is_none() {
+    if are_codewords(answers) {
+        mark_answered(columns);
         return true;
     }
     answer_parity_rows(&code, received, marks, answers);
@@ -136,28 +141,8 @@ fn answer_parity_rows(code: &Pi, received: &Received, marks: &Marks, answers: &m
     answer_rows(code, received, marks, 192, parity);
 }
 
-// The second pass, where no more rows failed than it can correct. Answers whether it corrects no row that was answered.
-// With more failed rows the columns stay as they were, perhaps those of an earlier block. `find_columns` refuses such a
-// block before it looks at them. `false` claims nothing: the rows are tested then.
-fn answer_all_columns<F: FnOnce()>(
-    answers: &[AnswerRow],
-    columns: &mut [ColumnAnswer],
-    begin_columns: F,
-) -> bool
-    requires rows { length answers.now ≡ 208 }
-    requires columns { length columns.old ≡ 182 }
-    requires callable { F.IsAlwaysCallable begin_columns }
-    ensures { AreColumnsAnswered answers.now columns.new result }
-{
-    let Some(failed) = few_failed(answers) else {
-        return false;
-    };
-    begin_columns();
-    answer_columns(&Po::new(), answers, &failed, 0, columns)
-}
-
-/// Which rows failed, where these are no more than the second pass can correct: with more it isn't begun. It is public
-/// for dvd_par, whose second pass begins likewise.
+/// Which rows failed, where these are no more than the second pass can correct: with more it isn't begun. It is for
+/// several workers, whose pieces of the columns all have these rows as marks.
 pub fn few_failed(answers: &[AnswerRow]) -> Option<[bool; 208]>
     requires { length answers.now ≡ 208 }
     ensures { MatchOption result (16 < marked (failed_of (map answer_word answers.now))) (λ failed. failed ≡ failed_of (map answer_word answers.now)) }
@@ -168,31 +153,24 @@ pub fn few_failed(answers: &[AnswerRow]) -> Option<[bool; 208]>
 }
 
 /// Sets the stage of a block whose rows and columns are answered, as `two_pass` does: the block of these columns must
-/// have codewords in all its rows. Where the columns correct no row that was answered, these rows are codewords and
-/// need no test.
-/// It is public for those who answer the pieces of both passes by several workers. All buffers stay, but that the
-/// answers of failed rows then hold the block's bytes where rows are kept. `are_kept` may be `false` of any block: then
-/// all rows are tested, which takes more time and gives the same answer.
-pub fn end_passes(work: &mut Work, are_kept: bool) -> Result<Fixed, Cause>
+/// have codewords in all its rows. Where the rows' answers have all bytes of the columns, the columns correct no row
+/// that was answered: these rows are codewords and need no test.
+/// It is public for those who answer the pieces of both passes by several workers. All buffers stay. `are_held` may be
+/// `false` of any block: then all rows are tested, which takes more time and gives the same answer.
+pub fn end_passes(work: &mut Work, are_held: bool) -> Result<Fixed, Cause>
     requires answers { AreAnswersFrom (rows_of work.old) (marks_of_work work.old) 0 (answers_of_work work.old) }
     requires columns { marked (failed_of (map answer_word (answers_of_work work.old))) ≤ 16
         → AreColumnsFrom (map answer_word (answers_of_work work.old)) 0 (column_answers work.old.columns) }
-    requires kept { IsTrue are_kept → AreKeptFrom (answers_of_work work.old) 0 (column_answers work.old.columns) }
+    requires held { IsTrue are_held → AreColumnsHeld (answers_of_work work.old) (column_answers work.old.columns) }
 
     ensures decoded { IsDecoded work.old work.new result }
-    ensures rows { IsTrue are_kept → AreRowsKept (answers_of_work work.new) (block_of work.new) }
-    ensures held { IsTrue are_kept → OnOk result (AreRowsHeld (answers_of_work work.new) (block_of work.new)) }
+    ensures held { IsTrue are_held → AreRowsHeld (answers_of_work work.new) (block_of work.new) }
 {
-    match find_block(work, are_kept) {
+    match find_block(work, are_held) {
         Ok(failed_rows) => {
-            if are_kept {
-                // At this stage nothing is said of the answers.
-                work.set_stage(Stage::Fetched);
-                fill_failed(work.answers.rows_mut(), work.columns.all());
-            }
             // The stage first: it ensures that the answers are those of the received rows, by which bytes are counted.
             work.set_stage(Stage::Fixed);
-            let bytes = count_fixed(work, are_kept);
+            let bytes = count_fixed(work, are_held);
             Ok(Fixed { bytes, failed_rows })
         }
         Err(cause) => {
@@ -204,11 +182,11 @@ pub fn end_passes(work: &mut Work, are_kept: bool) -> Result<Fixed, Cause>
 
 // How many rows failed, or why there is no block. Its clauses are of the captured block, and those of `find_columns` of
 // answers alone, whatever was received.
-fn find_block(work: &Work, are_kept: bool) -> Result<u16, Cause>
+fn find_block(work: &Work, are_held: bool) -> Result<u16, Cause>
     requires answers { AreAnswersFrom (rows_of work.now) (marks_of_work work.now) 0 (answers_of_work work.now) }
     requires columns { marked (failed_of (map answer_word (answers_of_work work.now))) ≤ 16
         → AreColumnsFrom (map answer_word (answers_of_work work.now)) 0 (column_answers work.now.columns) }
-    requires kept { IsTrue are_kept → AreKeptFrom (answers_of_work work.now) 0 (column_answers work.now.columns) }
+    requires held { IsTrue are_held → AreColumnsHeld (answers_of_work work.now) (column_answers work.now.columns) }
     ensures answers { AreAnswers (rows_of work.now) (marks_of_work work.now) (answers_of_work work.now) }
     ensures refused { IfErr result (λ cause. two_pass_cause (answers_of (rows_of work.now) (marks_of_work work.now)) ≡ Some cause) }
     ensures none { OnErr result (HasNoTwoPass (rows_of work.now) (marks_of_work work.now)) }
@@ -216,9 +194,8 @@ fn find_block(work: &Work, are_kept: bool) -> Result<u16, Cause>
     ensures block { OnOk result (block_of work.now ≡ block_found (answers_of (rows_of work.now) (marks_of_work work.now))) }
     ensures agrees { OnOk result (IsTwoPass (rows_of work.now) (marks_of_work work.now) (block_of work.now)) }
     ensures failed { IfOk result (λ failed. failed ≡ marked (failed_of (answers_of (rows_of work.now) (marks_of_work work.now)))) }
-    ensures rows { IsTrue are_kept → AreRowsKept (answers_of_work work.now) (block_of work.now) }
 {
-    find_columns(work.answers.rows(), work.columns.all(), are_kept)
+    find_columns(work.answers.rows(), work.columns.all(), are_held)
 }
 
 // The same of the answers alone.
@@ -229,19 +206,18 @@ fn find_block(work: &Work, are_kept: bool) -> Result<u16, Cause>
 fn find_columns(
     answers: &[AnswerRow],
     columns: &[ColumnAnswer],
-    are_kept: bool,
+    are_held: bool,
 ) -> Result<u16, Cause>
     requires rows { length answers.now ≡ 208 }
     requires codewords { AreCodewords answers.now }
     requires columns { length columns.now ≡ 182 }
     requires answered { marked (failed_of (map answer_word answers.now)) ≤ 16 → AreColumnsFrom (map answer_word answers.now) 0 columns.now }
-    requires kept { IsTrue are_kept → AreKeptFrom answers.now 0 columns.now }
+    requires held { IsTrue are_held → AreColumnsHeld answers.now columns.now }
     ensures refused { IfErr result (λ cause. two_pass_cause (map answer_word answers.now) ≡ Some cause) }
     ensures found { OnOk result (two_pass_cause (map answer_word answers.now) ≡ None) }
     ensures block { OnOk result (from_columns (words_of_columns columns.now) ≡ block_found (map answer_word answers.now)) }
     ensures agrees { OnOk result (AgreesWith (map answer_word answers.now) (from_columns (words_of_columns columns.now))) }
     ensures failed { IfOk result (λ failed. failed ≡ marked (failed_of (map answer_word answers.now))) }
-    ensures rows { IsTrue are_kept → AreRowsKept answers.now (from_columns (words_of_columns columns.now)) }
 {
     let mut failed = [false; 208];
     mark_failed(answers, &mut failed);
@@ -254,7 +230,7 @@ fn find_columns(
     if let Some(j) = first_missing(columns) {
         return Err(Cause::Column { j });
     }
-    match find_wrong(columns, are_kept) {
+    match find_wrong(columns, are_held) {
         Some(i) => Err(Cause::Row { i }),
         None => Ok(failed_rows),
     }
@@ -271,31 +247,14 @@ fn find_wrong(columns: &[ColumnAnswer], are_kept: bool) -> Option<u16>
     if are_kept { None } else { first_wrong(columns) }
 }
 
-// Writes into the answer of each failed row its row of the columns' block. A column has one byte of a row, so a row is
-// gathered from all of them: once, for all that read it after this. The others stay.
-fn fill_failed(answers: &mut [AnswerRow], columns: &[ColumnAnswer])
-    requires columns { length columns.now ≡ 182 }
-    ensures size { length answers.new ≡ length answers.old }
-    ensures fixes { (i : ℕ) (default : AnswerRow) → (slice_index_or answers.new i default).fix ≡ (slice_index_or answers.old i default).fix }
-    ensures answered { (i : ℕ) (default : AnswerRow) → is_some (slice_index_or answers.old i default).fix ≡ true
-        → (slice_index_or answers.new i default).bytes ≡ (slice_index_or answers.old i default).bytes }
-    ensures failed { (i : ℕ) (default : AnswerRow) → i < length answers.old → i < 208 → is_some (slice_index_or answers.old i default).fix ≡ false
-        → (slice_index_or answers.new i default).bytes ≡ line (from_columns (words_of_columns columns.now)) i }
-{
-    for i in 0..answers.len().min(208) {
-        if answers[i].fix.is_none() {
-            read_row(columns, i, &mut answers[i].bytes);
-        }
-    }
-}
-
-// In how many places the block differs from what was received. Where the rows are kept, most needn't be compared.
-fn count_fixed(work: &Work, are_kept: bool) -> u32
+// In how many places the block differs from what was received. Where the rows' answers hold the block, most needn't be
+// compared.
+fn count_fixed(work: &Work, are_held: bool) -> u32
     requires stage { HasAnswers (stage_of work.now) }
-    requires held { IsTrue are_kept → AreRowsHeld (answers_of_work work.now) (block_of work.now) }
+    requires held { IsTrue are_held → AreRowsHeld (answers_of_work work.now) (block_of work.now) }
     ensures { result ≡ block_differences (rows_of work.now) (block_of work.now) }
 {
-    if are_kept {
+    if are_held {
         count_corrections(work)
     } else {
         count_differences(&work.received, work.columns.all())
@@ -319,10 +278,12 @@ fn count_corrections(work: &Work) -> u32
 
 // In how many places the bytes of a row's answer differ from what was received: where nothing was marked, at its
 // errors. A mark on a right byte is no correction, so rows with marks are compared, and failed rows. `erased` says
-// whether there are any marks, so these are named by the clause alone.
+// whether there are any marks, so these are named by the clause alone. Also ensures the length of the answer's bytes,
+// which their type has.
 fn row_corrections(received: &[u8; 182], answer: &AnswerRow) -> u32
     ensures count { (marks : List Bool) → length marks ≡ 182 → IsAnswer received.now marks answer.now → result ≡ distance received.now answer.now.bytes }
     ensures most { result < 65536 }
+    ensures width { length answer.now.bytes ≡ 182 }
 {
     match answer.fix {
         Some(fix) if fix.erased == 0 => u32::from(fix.errors),

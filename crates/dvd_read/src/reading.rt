@@ -23,24 +23,25 @@ pub fn read_block(work: &mut Work, plan: &BlockPlan) -> Result<Fixed, Cause>
     requires numbers { HasNumbers plan.now }
     ensures { IsBlockRead work.old work.new plan.now result }
 {
-    let are_kept = answer_block(work, || ());
-    end_reading(work, plan, are_kept)
+    let are_held = answer_block(work, || ());
+    end_reading(work, plan, are_held)
 }
 
-/// Ends the reading of a block whose rows and columns are answered, as `read_block` does. Whether the columns keep the
-/// rows that were answered spares a test, and says where rows can be read whole; `false` may be said of any block.
+/// Ends the reading of a block whose rows and columns are answered, as `read_block` does. Whether the rows' answers
+/// have all bytes of the columns spares a test, and says where rows can be read whole; `false` may be said of any
+/// block.
 /// It is public for those who answer the pieces of both passes by several workers.
 #[tactic(auto, unfolding(dvd_decoding::specs::Reading::block_cause))]
-pub fn end_reading(work: &mut Work, plan: &BlockPlan, are_kept: bool) -> Result<Fixed, Cause>
-    requires answered { AreBothAnswered work.old are_kept }
+pub fn end_reading(work: &mut Work, plan: &BlockPlan, are_held: bool) -> Result<Fixed, Cause>
+    requires answered { AreBothAnswered work.old are_held }
     requires numbers { HasNumbers plan.now }
     ensures { IsBlockRead work.old work.new plan.now result }
 {
-    match end_passes(work, are_kept) {
+    match end_passes(work, are_held) {
         Ok(fixed) => {
             // How many bytes differ from those received counts too: where none does, the frames are read from what was
             // received. It sets the sectors to zeros itself where a frame has a cause.
-            sectors_of_block(work, plan, FrameSource::of(fixed.bytes, are_kept))?;
+            sectors_of_block(work, plan, FrameSource::of(fixed.bytes, are_held))?;
             Ok(fixed)
         }
         Err(cause) => {

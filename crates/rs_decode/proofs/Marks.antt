@@ -12,8 +12,8 @@ use Rattle.gf_field.proofs.FieldLaws.{alpha-nonzero, plus-assoc, plus-byte, plus
 use Rattle.rs_code.specs.Inner.PowerSums.{points_of}
 use Rattle.rs_code.proofs.PowerSums.{length-points_of}
 use Rattle.coding.specs.Filling.{marked}
-use Rattle.rs_decode.specs.Patches.{patched}
-use Rattle.rs_decode.specs.Inner.Places.{ArePlaces, picked, place_of_mark}
+use Rattle.rs_decode.specs.Patches.{patched, ArePlaces, place_of_mark}
+use Rattle.rs_decode.specs.Inner.Places.{picked}
 
 -- ---- the numbers at marked places
 

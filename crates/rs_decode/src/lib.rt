@@ -35,6 +35,7 @@ mod values;
 pub use erasures::{NoCodeword, fill};
 pub use errors::{Beyond, Fix, decode, decode_from};
 pub use inverse::Inverse;
+pub use locating::prove_bytes;
 pub use patches::Patches;
 pub use places::Erasures;
 pub use register::{Register, shortest};

@@ -9,14 +9,13 @@ ghost use Rattle.coding.specs.Words.{value};
 ghost use Rattle.coding.specs.Rows.{column, place};
 ghost use Rattle.coding.specs.Filling.{IsFilling, marked};
 ghost use Rattle.rs_code.specs.Inner.PowerSums.{power_sum};
-ghost use Rattle.rs_decode.specs.Inner.Places.{ArePlaces};
-ghost use Rattle.rs_decode.specs.Patches.{Completes, patched};
+ghost use Rattle.rs_decode.specs.Patches.{ArePlaces, AreRight, Completes, patched};
 
 use crate::inverse::Inverse;
 use crate::locating::prove_bytes;
 use crate::places::Erasures;
 use gf_field::log;
-use rs_lanes::{any_of, powers, with_multiple};
+use rs_lanes::{any_of, are_zeros, powers, with_multiple};
 use std::simd::prelude::*;
 
 /// The bytes to add at the marked places of 32 words of a code with sixteen parity bytes, which all have the same
@@ -59,6 +58,25 @@ impl Patches {
         patches
     }
 
+    /// Whether the bytes for all 32 words are right.
+    pub fn are_right(&self) -> bool
+        ensures { IsTrue result → AreRight self.now }
+    {
+        are_zeros(lanes_of(&self.wrong))
+    }
+
+    /// The bytes for all words at the marked place that `i` others come before: that for word `n` is in lane `n`. So
+    /// words that lie side by side are filled a place at a time, where `are_right` says that all may be. Also ensures
+    /// how many places have bytes, as the type says.
+    pub fn lanes(&self, i: usize) -> u8x32
+        requires { i < 16 }
+        ensures size { length result ≡ 32 }
+        ensures count { length self.now.bytes ≡ 16 }
+        ensures bytes { (n : ℕ) → n < 32 → slice_index result n ≡ place self.now.bytes i n }
+    {
+        lanes_of(&self.bytes[i])
+    }
+
     /// Sets the bytes at the marked places of word `n` so that it is a codeword. Answers whether the bytes for it are
     /// right: where they aren't, the word is unchanged. The marks have to be those that the patches were made for,
     /// which a clause asks for, as the word has to be the one whose values they were made by.
@@ -69,12 +87,12 @@ impl Patches {
         ensures filled { IsTrue result → IsFilling N 16 word.old erasures.now.marks word.new }
         ensures same { result ≡ false → word.new ≡ word.old }
     {
-        let count = erasures.points.len();
+        let places = erasures.places();
         // The test of the count is for the prover, which doesn't know that more than sixteen marks have no patches.
-        if self.wrong[n] != 0 || count > 16 {
+        if self.wrong[n] != 0 || places.len() > 16 {
             return false;
         }
-        self.add_to(&erasures.places[..count], n, word);
+        self.add_to(places, n, word);
         // It does nothing at run time: the clause `filled` speaks of bytes, which the checker doesn't know of an array.
         prove_bytes(word);
         true
@@ -94,6 +112,15 @@ impl Patches {
             word[usize::from(*place)] ^= self.bytes[i][n];
         }
     }
+}
+
+// 32 bytes as the lanes of a vector. Their number is known of the type, and not of a list in a list.
+#[inline(always)]
+fn lanes_of(bytes: &[u8; 32]) -> u8x32
+    ensures size { length result ≡ 32 }
+    ensures same { result ≡ bytes.now }
+{
+    u8x32::from_array(*bytes)
 }
 
 // The bytes that words with these values need at the points, in the lanes of a vector for each point: their first power

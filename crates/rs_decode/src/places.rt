@@ -9,8 +9,8 @@ ghost use Rattle.std.specs.Option.{ForSome};
 ghost use Rattle.coding.specs.Field.{alpha, power};
 ghost use Rattle.coding.specs.Words.{IsByte};
 ghost use Rattle.coding.specs.Filling.{marked};
-ghost use Rattle.rs_decode.specs.Patches.{patched};
-ghost use Rattle.rs_decode.specs.Inner.Places.{ArePlaces, picked};
+ghost use Rattle.rs_decode.specs.Patches.{patched, ArePlaces};
+ghost use Rattle.rs_decode.specs.Inner.Places.{picked};
 ghost use Rattle.rs_code.specs.Inner.PowerSums.{AreDistinct, points_of};
 ghost use Rattle.rs_decode.specs.Inner.Sums.{AreOnly};
 
@@ -80,6 +80,14 @@ impl<const N: usize> Erasures<N> {
         let mut erasures = Erasures::new(marks, most)?;
         erasures.inverse = inverse_of(&erasures.points);
         Some(erasures)
+    }
+
+    /// The marked places, in order.
+    pub fn places(&self) -> &[u8]
+        ensures count { length result.now ≡ marked self.now.marks }
+        ensures places { ArePlaces self.now.marks (marked self.now.marks) result.now }
+    {
+        &self.places[..self.points.len()]
     }
 
     /// The bytes at the marked places that have these power sums, if any have; else any bytes. Sums past the number of

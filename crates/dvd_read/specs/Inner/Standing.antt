@@ -1,7 +1,9 @@
 -- Ours: rows that are answered by codewords, and columns that are copied of these answers or have their bytes.
-use Rattle.std.specs.Prelude.{◌≡◌, ℕ, ◌+◌, ◌-◌, ◌<◌, ◌≤◌, Bool, true, List, [], is_some, length, slice_index, slice_index_or, Some}
+use Rattle.std.specs.Prelude.{◌≡◌, ℕ, ◌+◌, ◌-◌, ◌<◌, ◌≤◌, Bool, true, List, [], is_some, length, map, slice_index, slice_index_or, Some}
 use Rattle.coding.specs.Field.{alpha, power}
 use Rattle.coding.specs.Product.{column, line, place}
+use Rattle.coding.specs.Filling.{AgreeUnmarked}
+use Rattle.coding.specs.TwoPass.{column_answer, failed_of}
 use Rattle.coding.specs.Words.{IsCodeword, value}
 use Rattle.dvd_capture.specs.Answers.{IsAnswer, marks_line}
 use Rattle.dvd_capture.specs.declared.parts.AnswerRow.{AnswerRow}
@@ -17,6 +19,21 @@ AreCodewords answers =
 pub record AreOwnFrom (answers : List AnswerRow) (start : ℕ) (piece : List ColumnAnswer) : Type 0 where
   pub are : (k : ℕ) (default : ColumnAnswer) → k < length piece
       → (slice_index_or piece k default).bytes ≡ column (answer_bytes answers) (start + k)
+
+-- these have, in each row that didn't fail, the bytes of the columns of these answers from `start` on
+pub record AreKeptFrom (answers : List AnswerRow) (start : ℕ) (piece : List ColumnAnswer) : Type 0 where
+  pub are : (k : ℕ) (default : ColumnAnswer) → k < length piece
+      → AgreeUnmarked (failed_of (map answer_word answers)) (column (answer_bytes answers) (start + k)) (slice_index_or piece k default).bytes
+
+-- a block has the answers of all rows that didn't fail
+abbrev pub AreRowsKept : List AnswerRow → List (List ℕ) → Type 0
+AreRowsKept answers block =
+    (i : ℕ) (default : AnswerRow) → i < 208 → is_some (slice_index_or answers i default).fix ≡ true → line block i ≡ (slice_index_or answers i default).bytes
+
+-- of these answers the columns from `start` to the one before `end` are what the second pass answers to them
+abbrev pub AreCompleted : List AnswerRow → ℕ → ℕ → Type 0
+AreCompleted answers start end =
+    (j : ℕ) → start ≤ j → j < end → column_answer (map answer_word answers) j ≡ Some (column (answer_bytes answers) j)
 
 -- of each column of a piece that begins at column `start` the bytes of the first n rows' answers are copied
 abbrev pub AreCopied : List AnswerRow → ℕ → List ColumnAnswer → ℕ → Type 0

@@ -6,8 +6,8 @@ use Rattle.dvd_read.specs.Parts.{answer_word}
 use Rattle.dvd_read.proofs.MarkedColumns.{many-unanswered, unanswered_word}
 use Rattle.dvd_read.proofs.columns.answer_columns.Goals as goal
 
-pub returns-in-None-clause-columns : goal.returns-in-None-clause-columns
-returns-in-None-clause-columns c = record {
+pub returns-in-None : goal.returns-in-None
+returns-in-None c = record {
   are = λ k d within.
       let many : 16 < marked (failed_of (map answer_word c.args.answers.now)) = subst (λ (marks : List Bool). 16 < marked marks) c.requires.marks (omega (arith, c.in-None.ensures, c.from.ensures)) in
       unanswered_word (get_or c.leave_unanswered.new.piece k d) (c.leave_unanswered.ensures k d within)

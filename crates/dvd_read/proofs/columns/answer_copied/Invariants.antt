@@ -1,8 +1,7 @@
 -- What each iteration of the loop in `answer_copied` keeps.
-use Rattle.std.proofs.Common.{◌≡◌, ℕ, ◌+◌, ◌*◌, ◌<◌, ◌≤◌, true, length, map, get_or}
-use Rattle.coding.specs.Filling.{AgreeUnmarked}
+use Rattle.std.proofs.Common.{◌≡◌, ℕ, ◌+◌, ◌*◌, ◌<◌, ◌≤◌, length, map, get_or}
 use Rattle.coding.specs.Product.{column}
-use Rattle.coding.specs.TwoPass.{column_answer, failed_of}
+use Rattle.coding.specs.TwoPass.{column_answer}
 use Rattle.dvd_capture.specs.declared.parts.ColumnAnswer.{ColumnAnswer}
 use Rattle.dvd_read.specs.Parts.{answer_word, answer_bytes, column_word}
 use Rattle.dvd_read.proofs.columns.answer_copied.Given as goal
@@ -13,8 +12,6 @@ invariant-loop-group l = record {
   size : length l.piece ≡ length l.initial.piece;
   answered : (k : ℕ) (d : ColumnAnswer) → k < 32 * l.group → k < length l.piece
       → column_word (get_or l.piece k d) ≡ column_answer (map answer_word l.answers) (l.start + k);
-  kept : l.are_kept ≡ true → (k : ℕ) (d : ColumnAnswer) → k < 32 * l.group → k < length l.piece
-      → AgreeUnmarked (failed_of (map answer_word l.answers)) (column (answer_bytes l.answers) (l.start + k)) (get_or l.piece k d).bytes;
   others : (k : ℕ) (d : ColumnAnswer) → 32 * l.group ≤ k → k < length l.piece
       → (get_or l.piece k d).bytes ≡ column (answer_bytes l.answers) (l.start + k);
 }

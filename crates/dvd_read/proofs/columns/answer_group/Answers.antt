@@ -1,14 +1,12 @@
 -- The proof of `answer_group` in src/columns.rt.
-use Rattle.std.proofs.Common.{◌≡◌, ◌∙◌, ◌+◌, ◌-◌, ◌<◌, ℕ, Bool, List, All, sym, subst, arith, get_or, map, ap}
+use Rattle.std.proofs.Common.{◌≡◌, ◌∙◌, ◌+◌, ◌-◌, ◌<◌, ℕ, List, All, sym, subst, arith, get_or, ap}
 use Rattle.std.proofs.lemmas.Grind.{get_or_default_zero}
 use Rattle.coding.specs.Field.{alpha, power}
 use Rattle.coding.specs.Words.{IsByte, IsCodeword, value}
-use Rattle.coding.specs.Filling.{AgreeUnmarked}
 use Rattle.coding.specs.Nearest.{near_of}
 use Rattle.coding.specs.Product.{column}
-use Rattle.coding.specs.TwoPass.{failed_of}
 use Rattle.dvd_capture.specs.declared.parts.ColumnAnswer.{ColumnAnswer}
-use Rattle.dvd_read.specs.Parts.{answer_word, answer_bytes}
+use Rattle.dvd_read.specs.Parts.{answer_bytes}
 use Rattle.dvd_read.proofs.ColumnAnswers.{blank_column}
 use Rattle.dvd_read.proofs.MarkedColumns.{column_vanishes, marked-answer}
 use Rattle.dvd_read.proofs.columns.answer_group.Goals as goal
@@ -37,12 +35,4 @@ returns-clause-columns c = record {
       ∙ ap (λ (word : List ℕ). near_of 208 16 word c.args.erasures.now.marks) (c.requires.own.are k d (omega arith))
       ∙ ap (near_of 208 16 (column (answer_bytes c.args.answers.now) (c.args.start + k))) c.requires.marks
       ∙ marked-answer c.args.answers.now (c.args.start + k) c.requires.rows;
-}
-
-pub returns-clause-kept : goal.returns-clause-kept
-returns-clause-kept c = λ are_kept. record {
-  are = λ k d within.
-      subst (λ (word : List ℕ). AgreeUnmarked (failed_of (map answer_word c.args.answers.now)) word (get_or c.loop-k.piece k d).bytes) (c.requires.own.are k d (omega arith))
-      (subst (λ (marks : List Bool). AgreeUnmarked marks (get_or c.args.piece.now k d).bytes (get_or c.loop-k.piece k d).bytes) c.requires.marks
-      (c.loop-k.invariant.kept are_kept k d (omega arith)));
 }

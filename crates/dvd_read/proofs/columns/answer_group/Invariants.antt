@@ -1,6 +1,5 @@
 -- What each iteration of the loop in `answer_group` keeps.
-use Rattle.std.proofs.Common.{◌≡◌, ℕ, ◌<◌, ◌≤◌, true, get_or}
-use Rattle.coding.specs.Filling.{AgreeUnmarked}
+use Rattle.std.proofs.Common.{◌≡◌, ℕ, ◌<◌, ◌≤◌, get_or}
 use Rattle.coding.specs.Nearest.{near_of}
 use Rattle.dvd_capture.specs.declared.parts.ColumnAnswer.{ColumnAnswer}
 use Rattle.dvd_read.specs.Parts.{column_word}
@@ -10,6 +9,5 @@ use Rattle.dvd_read.proofs.columns.answer_group.Given as goal
 abbrev pub invariant-loop-k : goal.invariant-loop-k
 invariant-loop-k l = record {
   answered : (j : ℕ) (d : ColumnAnswer) → j < l.k → column_word (get_or l.piece j d) ≡ near_of 208 16 (get_or l.fn.piece j d).bytes l.erasures.marks;
-  kept : l.are_kept ≡ true → (j : ℕ) (d : ColumnAnswer) → j < l.k → AgreeUnmarked l.erasures.marks (get_or l.fn.piece j d).bytes (get_or l.piece j d).bytes;
   others : (j : ℕ) (d : ColumnAnswer) → l.k ≤ j → get_or l.piece j d ≡ get_or l.fn.piece j d;
 }

@@ -1,5 +1,5 @@
 -- The proof of `fill_column` in src/columns.rt.
-use Rattle.std.proofs.Common.{◌≡◌, ◌∙◌, length, Bool, Some, None, if◌then◌else◌, refl, sym, ap, arith}
+use Rattle.std.proofs.Common.{◌≡◌, ◌∙◌, length, Bool, Some, None, if◌then◌else◌, sym, ap, arith}
 use Rattle.rs_decode.proofs.NearSearch.{near_of-some}
 use Rattle.rs_decode.proofs.OneNear.{filling_near}
 use Rattle.dvd_read.proofs.MarkedColumns.{own-marked}
@@ -9,9 +9,6 @@ pub returns-then-wrong-eq0-clause-answered : goal.returns-then-wrong-eq0-clause-
 returns-then-wrong-eq0-clause-answered c = λ _.
     sym (own-marked 208 16 c.args.column.now.bytes c.args.erasures.now.marks (omega arith) c.args.erasures.now.size c.requires.within
     (c.requires.wrong c.if-wrong-eq0.true))
-
-pub returns-then-wrong-eq0-clause-kept : goal.returns-then-wrong-eq0-clause-kept
-returns-then-wrong-eq0-clause-kept c = λ _ k within clear. refl
 
 pub returns-clause-answered : goal.returns-clause-answered
 returns-clause-answered c = λ filled.

@@ -1,5 +1,5 @@
 -- The proof of `get_frame` in src/frames.rt.
-use Rattle.std.proofs.Common.{◌≡◌, ◌∙◌, ◌+◌, ◌*◌, List, ℕ, slice_index, length, sym, ap, arith}
+use Rattle.std.proofs.Common.{◌≡◌, ◌∙◌, ◌+◌, ◌*◌, ◌<◌, List, ℕ, slice_index, length, sym, ap, arith}
 use Rattle.std.proofs.lemmas.List.{length-map}
 use Rattle.coding.specs.Product.{line}
 use Rattle.dvd_capture.specs.Parts.{received_rows}
@@ -12,7 +12,7 @@ use Rattle.dvd_read.specs.Inner.Found.{words_of_columns}
 use Rattle.dvd_read.proofs.Differences.{rows-same}
 use Rattle.dvd_read.specs.Parts.{answer_bytes}
 use Rattle.dvd_read.proofs.FrameFaults.{frames-same}
-use Rattle.dvd_read.proofs.Standing.{held-line}
+use Rattle.dvd_read.proofs.Holding.{held-line}
 use Rattle.dvd_read.proofs.frames.get_frame.Goals as goal
 
 pub returns-in-Received : goal.returns-in-Received
@@ -32,7 +32,13 @@ returns-in-Received c =
 
 pub returns-in-Answers : goal.returns-in-Answers
 returns-in-Answers c =
-    let block : List (List ℕ) = from_columns (words_of_columns c.args.columns.now) in
-    c.copy_held.ensures
-    ∙ frames-same (answer_bytes c.args.answers.now) block c.args.f
-    (λ q below. held-line c.args.answers.now block (12 * c.args.f + q) c.requires.rows (c.requires.answers c.in-Answers.is) (omega (arith, c.requires.frame)))
+    let words : List (List ℕ) = words_of_columns c.args.columns.now in
+    c.copy_held.ensures.frame
+    ∙ frames-same (answer_bytes c.args.answers.now) (from_columns words) c.args.f
+    (λ q below.
+    let i : ℕ = 12 * c.args.f + q in
+    let inside : i < 208 = omega (arith, c.requires.frame) in
+    held-line c.args.answers.now (from_columns words) i c.requires.rows inside (c.copy_held.ensures.widths q below)
+    (ap length (from_columns-line words i inside) ∙ length-map words (λ word. slice_index word i)
+    ∙ length-map c.args.columns.now (λ (column : ColumnAnswer). column.bytes) ∙ c.requires.columns)
+    (c.requires.answers c.in-Answers.is))

@@ -1,17 +1,42 @@
 -- The proof of `answer_both` in src/passes.rt.
-use Rattle.std.proofs.Common.{◌≡◌, ◌∙◌, ℕ, false, None, Some, is_some, refl, sym, arith}
-use Rattle.std.specs.declared.option.Option.{Option}
+use Rattle.std.proofs.Common.{◌≡◌, ◌∙◌, length, ap, arith}
+use Rattle.coding.specs.Filling.{marked}
 use Rattle.dvd_capture.specs.Parts.{marks_rows, received_rows}
-use Rattle.dvd_read.proofs.ParityRows.{taken-answered}
+use Rattle.dvd_read.specs.Inner.Standing.{AreOwnFrom}
+use Rattle.dvd_read.proofs.Completing.{codeword-completed, completed-answered}
+use Rattle.dvd_read.proofs.Holding.{own-held, same-answers}
+use Rattle.dvd_read.proofs.ParityRows.{none-failed, taken-answered}
+use Rattle.dvd_read.proofs.Standing.{marked-clear}
 use Rattle.dvd_read.proofs.passes.answer_both.Goals as goal
 
--- what isn't there is nothing
-none-is : (found : Option ℕ) → is_some found ≡ false → found ≡ None
-none-is None none = refl
-none-is (Some j) none = cc
+pub returns-then-not-take_rows-clause-rows : goal.returns-then-not-take_rows-clause-rows
+returns-then-not-take_rows-clause-rows g c =
+    same-answers (received_rows c.args.received.now) (marks_rows c.args.marks.now) c.take_rows.new.answers c.answer_all_columns.new.answers c.answer_all_columns.ensures.same
+    (c.take_rows.ensures.answered c.if-not-take_rows.true)
 
-pub returns-then-is_none-clause-rows : goal.returns-then-is_none-clause-rows
-returns-then-is_none-clause-rows g c =
-    taken-answered (received_rows c.args.received.now) (marks_rows c.args.marks.now) c.take_rows.new.answers c.answer_copied_columns.new.columns c.take_rows.ensures.answers_size (omega arith)
-    (c.take_rows.ensures.upper c.if-not-take_rows.false) (c.take_rows.ensures.taken c.if-not-take_rows.false)
-    c.if-answer_copied_columns.ensures (sym c.first_missing.ensures ∙ none-is c.first_missing.result c.if-is_none.ensures)
+pub returns-then-are_codewords-clause-rows : goal.returns-then-are_codewords-clause-rows
+returns-then-are_codewords-clause-rows g c =
+    taken-answered (received_rows c.args.received.now) (marks_rows c.args.marks.now) c.take_rows.new.answers c.take_rows.ensures.answers_size
+    (c.take_rows.ensures.upper c.if-not-take_rows.false) (c.take_rows.ensures.taken c.if-not-take_rows.false) (c.are_codewords.ensures c.if-are_codewords.true)
+
+pub returns-then-are_codewords-clause-columns : goal.returns-then-are_codewords-clause-columns
+returns-then-are_codewords-clause-columns g c =
+    let answers = c.take_rows.new.answers in
+    let columns = c.mark_answered.new.columns in
+    let size = c.take_rows.ensures.answers_size in
+    let columns_size : length columns ≡ 182 = omega (arith, c.mark_answered.ensures.size, c.take_rows.ensures.size) in
+    let taken = c.take_rows.ensures.taken c.if-not-take_rows.false in
+    let few = ap marked (none-failed answers size (λ i d below. (taken i d below).answered)) ∙ marked-clear 208 in
+    let own : AreOwnFrom answers 0 columns = record {
+      are = λ k d within. c.mark_answered.ensures.bytes k d ∙ (c.take_rows.ensures.own c.if-not-take_rows.false).are k d (omega (arith, within, c.mark_answered.ensures.size));
+    } in
+    record {
+      found = λ _. completed-answered answers columns columns_size
+          (λ j below. codeword-completed answers j size (omega (arith, few)) (c.are_codewords.ensures c.if-are_codewords.true j below)) own c.mark_answered.ensures.answered;
+      held = λ _. own-held answers columns size columns_size own;
+    }
+
+pub returns-clause-rows : goal.returns-clause-rows
+returns-clause-rows g c =
+    same-answers (received_rows c.args.received.now) (marks_rows c.args.marks.now) c.answer_parity_rows.new.answers c.answer_all_columns-2.new.answers c.answer_all_columns-2.ensures.same
+    c.answer_parity_rows.ensures.rows

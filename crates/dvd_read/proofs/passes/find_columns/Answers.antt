@@ -1,19 +1,16 @@
 -- The proof of `find_columns` in src/passes.rt.
-use Rattle.std.proofs.Common.{◌≡◌, ◌≤◌, ◌∙◌, Bool, None, List, length, map, sym, ap, subst, arith}
-use Rattle.std.specs.Prelude.{IsTrue}
+use Rattle.std.proofs.Common.{◌≡◌, ◌≤◌, ◌∙◌, None, map, sym, ap, subst, arith}
 use Rattle.std.proofs.lemmas.List.{length-map}
 use Rattle.coding.specs.Filling.{marked}
 use Rattle.coding.specs.TwoPass.{AgreesWith, failed_of, from_columns}
-use Rattle.dvd_capture.specs.declared.parts.AnswerRow.{AnswerRow}
-use Rattle.dvd_capture.specs.declared.parts.ColumnAnswer.{ColumnAnswer}
 use Rattle.dvd_decoding.specs.Causes.{two_pass_cause}
 use Rattle.coding.specs.Found.{block_found}
 use Rattle.dvd_read.specs.Inner.Found.{words_of_columns}
-use Rattle.dvd_read.specs.Inner.Standing.{AreCodewords}
-use Rattle.dvd_read.specs.Parts.{AreKeptFrom, AreRowsKept, answer_word}
+use Rattle.dvd_read.specs.Parts.{answer_word}
 use Rattle.dvd_read.proofs.ColumnAnswers.{columns-whole}
 use Rattle.dvd_read.proofs.Outcomes.{rows_cause}
 use Rattle.dvd_read.proofs.FoundColumns.{column_refused, row_refused, block_accepted, rows_all-vanish, words-found}
+use Rattle.dvd_read.proofs.Holding.{held-kept}
 use Rattle.dvd_read.proofs.Standing.{kept-vanish, rows-kept}
 use Rattle.dvd_read.proofs.passes.find_columns.Goals as goal
 
@@ -22,15 +19,6 @@ returns-then-failed_rows-gt-MOST_FAILED-clause-refused c =
     rows_cause (map answer_word c.args.answers.now) c.count_failed-failed_rows.result
     (c.count_failed-failed_rows.ensures.count ∙ ap marked c.mark_failed.ensures) c.if-failed_rows-gt-MOST_FAILED.true
 
--- where the rows that were answered are said to be kept, they are
-pub kept_rows : (answers : List AnswerRow) (columns : List ColumnAnswer) (is : Bool) → length answers ≡ 208 → length columns ≡ 182 → AreCodewords answers
-    → (IsTrue is → AreKeptFrom answers 0 columns) → IsTrue is → AreRowsKept answers (from_columns (words_of_columns columns))
-kept_rows answers columns is size columns_size codewords kept true_is = rows-kept answers columns size columns_size codewords (kept true_is)
-
-pub returns-then-failed_rows-gt-MOST_FAILED-clause-rows : goal.returns-then-failed_rows-gt-MOST_FAILED-clause-rows
-returns-then-failed_rows-gt-MOST_FAILED-clause-rows c =
-    kept_rows c.args.answers.now c.args.columns.now c.args.are_kept c.requires.rows c.requires.columns c.requires.codewords c.requires.kept
-
 pub returns-in-Some-clause-refused : goal.returns-in-Some-clause-refused
 returns-in-Some-clause-refused c =
     let few : marked (failed_of (map answer_word c.args.answers.now)) ≤ 16 = omega (arith, c.count_failed-failed_rows.ensures.count, ap marked c.mark_failed.ensures) in
@@ -38,19 +26,16 @@ returns-in-Some-clause-refused c =
     (columns-whole (map answer_word c.args.answers.now) c.args.columns.now c.requires.columns (c.requires.answered few)) few
     (sym c.in-Some.ensures)
 
-pub returns-in-Some-clause-rows : goal.returns-in-Some-clause-rows
-returns-in-Some-clause-rows c =
-    kept_rows c.args.answers.now c.args.columns.now c.args.are_kept c.requires.rows c.requires.columns c.requires.codewords c.requires.kept
-
 pub find_wrong-requires-clause-right : goal.find_wrong-requires-clause-right
-find_wrong-requires-clause-right c = λ are_kept.
+find_wrong-requires-clause-right c = λ are_held.
     let few : marked (failed_of (map answer_word c.args.answers.now)) ≤ 16 = omega (arith, c.count_failed-failed_rows.ensures.count, ap marked c.mark_failed.ensures) in
     rows_all-vanish (map answer_word c.args.answers.now) c.args.columns.now (length-map c.args.answers.now answer_word ∙ c.requires.rows) c.requires.columns
     (columns-whole (map answer_word c.args.answers.now) c.args.columns.now c.requires.columns (c.requires.answered few)) few
     (sym c.in_default.ensures)
     (λ i below clear.
     kept-vanish c.args.answers.now (from_columns (words_of_columns c.args.columns.now)) i c.requires.rows c.requires.codewords
-    (kept_rows c.args.answers.now c.args.columns.now c.args.are_kept c.requires.rows c.requires.columns c.requires.codewords c.requires.kept are_kept)
+    (rows-kept c.args.answers.now c.args.columns.now c.requires.rows c.requires.columns c.requires.codewords
+    (held-kept c.args.answers.now c.args.columns.now c.requires.rows c.requires.columns (c.requires.held are_held)))
     below clear)
 
 pub returns-in-Some-find_wrong-clause-refused : goal.returns-in-Some-find_wrong-clause-refused
@@ -59,10 +44,6 @@ returns-in-Some-find_wrong-clause-refused c =
     row_refused (map answer_word c.args.answers.now) c.args.columns.now c.in-Some-find_wrong.i c.requires.columns
     (columns-whole (map answer_word c.args.answers.now) c.args.columns.now c.requires.columns (c.requires.answered few)) few
     (sym c.in_default.ensures) (sym c.in-Some-find_wrong.ensures)
-
-pub returns-in-Some-find_wrong-clause-rows : goal.returns-in-Some-find_wrong-clause-rows
-returns-in-Some-find_wrong-clause-rows c =
-    kept_rows c.args.answers.now c.args.columns.now c.args.are_kept c.requires.rows c.requires.columns c.requires.codewords c.requires.kept
 
 -- the block is found
 abbrev accepted : (c : goal.In-None) → (two_pass_cause (map answer_word c.args.answers.now) ≡ None) × AgreesWith (map answer_word c.args.answers.now) (block_found (map answer_word c.args.answers.now))
@@ -83,7 +64,3 @@ returns-in-None-clause-block c =
 
 pub returns-in-None-clause-agrees : goal.returns-in-None-clause-agrees
 returns-in-None-clause-agrees c = subst (AgreesWith (map answer_word c.args.answers.now)) (sym (returns-in-None-clause-block c)) (accepted c).1
-
-pub returns-in-None-clause-rows : goal.returns-in-None-clause-rows
-returns-in-None-clause-rows c =
-    kept_rows c.args.answers.now c.args.columns.now c.args.are_kept c.requires.rows c.requires.columns c.requires.codewords c.requires.kept

@@ -1,7 +1,7 @@
 -- What each iteration of the loop in `gather_places` keeps.
 use Rattle.std.proofs.Common.{◌≡◌, ◌≤◌, length, take}
 use Rattle.coding.specs.Filling.{marked}
-use Rattle.rs_decode.specs.Inner.Places.{ArePlaces}
+use Rattle.rs_decode.specs.Patches.{ArePlaces}
 use Rattle.rs_decode.proofs.places.gather_places.Given as goal
 
 -- the marked places so far

@@ -5,7 +5,8 @@ use Rattle.coding.specs.Field.{alpha, power}
 use Rattle.coding.specs.Filling.{marked}
 use Rattle.rs_code.specs.Inner.PowerSums.{points_of}
 use Rattle.rs_code.proofs.PowerSums.{length-points_of}
-use Rattle.rs_decode.specs.Inner.Places.{ArePlaces, picked}
+use Rattle.rs_decode.specs.Inner.Places.{picked}
+use Rattle.rs_decode.specs.Patches.{ArePlaces}
 use Rattle.rs_decode.proofs.Fillings.{points-few}
 use Rattle.rs_decode.proofs.Marks.{length-picked, picked-none, point-next}
 use Rattle.rs_decode.proofs.places.marked_points.Goals as goal

@@ -2,8 +2,7 @@
 use Rattle.std.proofs.Common.{◌≡◌, Bool, List, length, take}
 use Rattle.coding.specs.Filling.{marked}
 use Rattle.coding.specs.Rows.{column}
-use Rattle.rs_decode.specs.Inner.Places.{ArePlaces}
-use Rattle.rs_decode.specs.Patches.{patched}
+use Rattle.rs_decode.specs.Patches.{patched, ArePlaces}
 use Rattle.rs_decode.proofs.patches.Patches.add_to.Given as goal
 
 -- the first bytes are added, where the places are the marked ones

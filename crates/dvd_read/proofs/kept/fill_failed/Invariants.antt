@@ -4,7 +4,7 @@ use Rattle.coding.specs.Product.{line}
 use Rattle.coding.specs.TwoPass.{from_columns}
 use Rattle.dvd_capture.specs.declared.parts.AnswerRow.{AnswerRow}
 use Rattle.dvd_read.specs.Inner.Found.{words_of_columns}
-use Rattle.dvd_read.proofs.passes.fill_failed.Given as goal
+use Rattle.dvd_read.proofs.kept.fill_failed.Given as goal
 
 -- the failed rows before are written, and those above are as they were; the others are as they were
 abbrev pub invariant-loop-i : goal.invariant-loop-i
