@@ -20,7 +20,7 @@ use crate::order::{put_in_order, set_rows};
 use crate::row_marks::RowMarks;
 use dvd_ports::NoMemory;
 use rs_decode::Fix;
-use rs_lanes::Row;
+use rs_lanes::{Row, copy_row};
 use std::alloc::Global;
 
 /// The received rows: 208 of 182 bytes, 37,856 bytes in sum. They are one list of bytes and no list of rows, so that
@@ -248,7 +248,7 @@ impl AnswerRow {
         ensures bytes { self.new.bytes ≡ bytes.now }
         ensures fix { self.new.fix ≡ fix }
     {
-        self.bytes = *bytes;
+        copy_row(bytes, &mut self.bytes);
         self.fix = fix;
     }
 }

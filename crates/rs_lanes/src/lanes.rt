@@ -2,7 +2,8 @@
 //! a contract says once what happens in each lane.
 //! In contracts a vector is a list of numbers, and its type doesn't say how many. So a clause says where there are 32:
 //! `size`, or `HasLanes`, which says what each lane has too. Contracts of what other crates use don't cite `HasLanes`.
-//! Those are `load`, `store`, `any_of`, `are_zeros`, `multiple` and `with_multiple`; the rest serves this crate.
+//! Those are `load`, `store`, `copy_row`, `any_of`, `are_zeros`, `multiple` and `with_multiple`; the rest serves this
+//! crate.
 //! All is inlined, so that vectors needn't pass through memory, and a factor that is a constant stays one.
 ghost use Rattle.std.specs.Prelude.{◌≡◌, ◌↔◌, ℕ, IsTrue, ◌+◌, ◌*◌, ◌/◌, ◌%◌, ◌<◌, ◌≤◌, length, slice_index};
 ghost use Rattle.coding.specs.Field.{plus, product};
@@ -65,6 +66,18 @@ pub fn store(lanes: u8x32, row: &mut [u8], at: usize)
     ensures above { (k : ℕ) → at + 32 ≤ k → slice_index row.new k ≡ slice_index row.old k }
 {
     lanes.copy_to_slice(&mut row[at..]);
+}
+
+/// Copies a row, as six vectors. The last begins at place 150 and writes some bytes again, as 182 is no multiple of 32.
+/// A row is copied for each answer, and a call that copies any number of bytes takes longer than these six.
+#[inline(always)]
+pub fn copy_row(from: &[u8; 182], to: &mut [u8; 182])
+    ensures { to.new ≡ from.now }
+{
+    for piece in 0..5usize {
+        store(load(from, 32 * piece), to, 32 * piece);
+    }
+    store(load(from, 150), to, 150);
 }
 
 /// The product of each lane and the factor of the table. A product is linear: it is the sum of those with the low and

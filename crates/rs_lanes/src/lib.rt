@@ -32,7 +32,7 @@ pub mod transposing;
 
 pub use columns::{column_values, column_values_by, outer_parity, parity_of_columns};
 pub use fold3::Thirds;
-pub use lanes::{any_of, are_zeros, load, multiple, store, with_multiple};
+pub use lanes::{any_of, are_zeros, copy_row, load, multiple, store, with_multiple};
 pub use points::{mul_scalar, powers};
 pub use row::Row;
 pub use rows::{inner_parity, row_values, row_values_by, transposed_values};
