@@ -73,6 +73,21 @@ fn each_piece_of_both_passes_is_asked_for_once_a_pass(rt: HostRuntime) -> Result
     Ok(())
 }
 
+// One worker answers a block by one call, whatever was received: it asks where a pass begins, and with more failed rows
+// than the columns correct no second one does.
+#[test]
+fn one_worker_asks_where_a_pass_begins(rt: HostRuntime) -> Result<(), Fail> {
+    for (bad, lost, digits) in [(0, 0, 0x2), (8, 0, 0x2), (0, 16, 0x2), (0, 17, 0x1)] {
+        let mut work = received(rt.alloc(), 0, 12, bad, lost)?;
+        let gate = Counting::new();
+        if work.stage() == Stage::Fetched {
+            two_pass_par(&rt, 1, &gate, &mut work).is_ok();
+        }
+        assert_eq!(rt; gate.digits(), Some(digits));
+    }
+    Ok(())
+}
+
 // Parity is added in two passes too: that of the rows, and then that of the columns.
 #[test]
 fn each_piece_of_the_parity_is_asked_for_once_a_pass(rt: HostRuntime) -> Result<(), Fail> {

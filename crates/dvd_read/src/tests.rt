@@ -1,6 +1,7 @@
 //! Worked values from outside the program. Blocks of which no frame is read are in dvd_par, by the plain call too.
 //! Helpers without a contract test what a call requires of them, a stage or a row of the block: where that doesn't
 //! hold, they do nothing or answer `None`. Products wrap where nothing bounds them.
+use crate::parts::answer_block;
 use crate::{Cause, Fixed, read_block, salvage, sectors, two_pass};
 use dvd_block::Block;
 use dvd_capture::{Stage, Work};
@@ -135,6 +136,36 @@ fn data_block(alloc: Global, edc: Option<u32>, ied: Option<u32>) -> Result<Work,
     let mut work = Work::new(alloc)?;
     work.load_block(&block);
     Ok(work)
+}
+
+// Whether one worker finds that the rows' answers of a received block hold its columns.
+fn are_held(work: &mut Work) -> Option<bool> {
+    if work.stage() == Stage::Fetched {
+        Some(answer_block(work, || ()))
+    } else {
+        None
+    }
+}
+
+// `false` would be allowed for each, as no clause says when the answers are found to hold the columns: it costs time.
+// Row 100 is one of the frames, and row 207 one of outer parity.
+#[test]
+fn answers_hold_columns_that_correct_no_answered_row(rt: HostRuntime) -> Result<(), Fail> {
+    for lost in [0usize, 1, 16] {
+        for (i, errors) in [(100, 0usize), (100, 5), (207, 1)] {
+            let mut work = zero_block(rt.alloc())?;
+            for t in 0..lost {
+                for j in 0..182usize {
+                    put(&mut work, t.wrapping_mul(13), j, 0xA5, true);
+                }
+            }
+            for k in 0..errors {
+                put(&mut work, i, k.wrapping_mul(36), 0x5A, false);
+            }
+            assert_eq!(rt; are_held(&mut work), Some(true));
+        }
+    }
+    Ok(())
 }
 
 #[test]
