@@ -17,8 +17,8 @@ use Rattle.dvd_capture.specs.declared.parts.ColumnAnswer.{ColumnAnswer}
 use Rattle.dvd_capture.specs.declared.parts.Columns.{Columns}
 use Rattle.dvd_capture.specs.declared.work.Work.{Work}
 use Rattle.dvd_read.specs.Inner.Found.{words_of_columns}
-use Rattle.dvd_read.specs.Inner.Standing.{AreKeptFrom, AreOwnFrom}
-use Rattle.dvd_read.specs.Parts.{AreAnswersFrom, AreColumnsHeld, AreRowsHeld, AreSameAnswers, answer_by, answer_bytes, answer_word}
+use Rattle.dvd_read.specs.Inner.Standing.{AreOwnFrom}
+use Rattle.dvd_read.specs.Parts.{AreAnswersFrom, AreColumnsHeld, AreKeptFrom, AreRowsHeld, AreSameAnswers, answer_by, answer_bytes, answer_word}
 use Rattle.dvd_read.proofs.ColumnAnswers.{blank_column}
 use Rattle.dvd_read.proofs.RowAnswers.{blank_answer}
 use Rattle.dvd_read.proofs.Standing.{get_or-answer_bytes, length-answer_bytes, unmarked-at}

@@ -22,9 +22,9 @@ use Rattle.coding.specs.TwoPass.{failed_of, from_columns}
 use Rattle.dvd_capture.specs.declared.parts.AnswerRow.{AnswerRow}
 use Rattle.dvd_capture.specs.declared.parts.ColumnAnswer.{ColumnAnswer}
 use Rattle.dvd_capture.proofs.Columns.{from_columns-line}
-use Rattle.dvd_read.specs.Parts.{answer_by, answer_word, answer_bytes}
+use Rattle.dvd_read.specs.Parts.{AreKeptFrom, answer_by, answer_word, answer_bytes}
 use Rattle.dvd_read.specs.Inner.Found.{words_of_columns}
-use Rattle.dvd_read.specs.Inner.Standing.{AreCodewords, AreKeptFrom, AreRowsKept}
+use Rattle.dvd_read.specs.Inner.Standing.{AreCodewords, AreRowsKept}
 use Rattle.dvd_read.proofs.ColumnAnswers.{blank_column}
 use Rattle.dvd_read.proofs.RowAnswers.{blank_answer, row_fixed}
 

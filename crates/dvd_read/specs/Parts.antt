@@ -3,11 +3,12 @@
 use Rattle.std.specs.Prelude.{◌≡◌, ◌+◌, ◌<◌, ℕ, Bool, true, List, length, map, slice_index, slice_index_or, Some, None, is_some, if◌then◌else◌}
 use Rattle.std.specs.declared.option.Option.{Option}
 use Rattle.rs_decode.specs.declared.errors.Fix.{Fix}
+use Rattle.coding.specs.Filling.{AgreeUnmarked}
 use Rattle.coding.specs.Product.{column, line, place}
 use Rattle.dvd_capture.specs.Answers.{IsAnswer, marks_line}
 use Rattle.dvd_capture.specs.declared.parts.AnswerRow.{AnswerRow}
 use Rattle.dvd_capture.specs.declared.parts.ColumnAnswer.{ColumnAnswer}
-use Rattle.coding.specs.TwoPass.{column_answer}
+use Rattle.coding.specs.TwoPass.{column_answer, failed_of}
 
 -- a row's answer as a word or none
 abbrev pub answer_by : Option Fix → List ℕ → Option (List ℕ)
@@ -35,6 +36,11 @@ pub record AreAnswersFrom (received : List (List ℕ)) (marks : List (List Bool)
 pub record AreColumnsFrom (answers : List (Option (List ℕ))) (start : ℕ) (piece : List ColumnAnswer) : Type 0 where
   pub are : (k : ℕ) (default : ColumnAnswer) → k < length piece
       → column_word (slice_index_or piece k default) ≡ column_answer answers (start + k)
+
+-- these have, in each row that didn't fail, the bytes of the columns of these answers from `start` on
+pub record AreKeptFrom (answers : List AnswerRow) (start : ℕ) (piece : List ColumnAnswer) : Type 0 where
+  pub are : (k : ℕ) (default : ColumnAnswer) → k < length piece
+      → AgreeUnmarked (failed_of (map answer_word answers)) (column (answer_bytes answers) (start + k)) (slice_index_or piece k default).bytes
 
 -- a block has at each place the byte of that row's answer, of failed rows too
 abbrev pub AreRowsHeld : List AnswerRow → List (List ℕ) → Type 0

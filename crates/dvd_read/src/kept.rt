@@ -1,5 +1,6 @@
-//! Whether the columns keep the rows that were answered, by comparing both. Workers who answered pieces of the columns
-//! apart from each other can't know it. A row that is kept is a codeword already, and needs no test.
+//! Whether the columns keep the rows that were answered, by comparing both, and the failed rows' bytes where they do.
+//! Workers who answered pieces of the columns apart from each other can't know it. A row that is kept is a codeword
+//! already, and needs no test.
 //! 32 rows and sixteen columns are compared at once, in vectors with a lane for each row. In clauses `IsRowKept` says
 //! that the columns from one place to the one before another have the bytes of a row's answer. A vector is a list
 //! there, whose length its type doesn't say: so clauses say that there are 32 lanes. A lane of `any_of` is 0 exactly
@@ -9,9 +10,9 @@ ghost use Rattle.coding.specs.Product.{line};
 ghost use Rattle.coding.specs.TwoPass.{failed_of, from_columns};
 ghost use Rattle.dvd_capture.specs.declared.parts.AnswerRow.{AnswerRow};
 ghost use Rattle.dvd_capture.specs.declared.parts.ColumnAnswer.{ColumnAnswer};
-ghost use Rattle.dvd_read.specs.Parts.{AreColumnsHeld, AreSameAnswers, answer_word};
+ghost use Rattle.dvd_read.specs.Parts.{AreColumnsHeld, AreKeptFrom, AreSameAnswers, answer_word};
 ghost use Rattle.dvd_read.specs.Inner.Found.{words_of_columns};
-ghost use Rattle.dvd_read.specs.Inner.Standing.{AreKeptFrom, IsRowKept};
+ghost use Rattle.dvd_read.specs.Inner.Standing.{IsRowKept};
 
 use crate::columns::read_row;
 use dvd_capture::parts::{AnswerRow, ColumnAnswer};
@@ -29,8 +30,10 @@ pub fn hold_columns(
     requires rows { length answers.old ≡ 208 }
     requires marks { failed.now ≡ failed_of (map answer_word answers.old) }
     requires columns { length columns.now ≡ 182 }
+    ensures kept { IsTrue result ↔ AreKeptFrom answers.old 0 columns.now }
     ensures same { AreSameAnswers answers.old answers.new }
     ensures held { IsTrue result → AreColumnsHeld answers.new columns.now }
+    ensures left { result ≡ false → answers.new ≡ answers.old }
 {
     let are_held = are_kept(answers, failed, columns);
     if are_held {

@@ -19,7 +19,7 @@ use rs_lanes::{any_of, are_zeros, powers, with_multiple};
 use std::simd::prelude::*;
 
 /// The bytes to add at the marked places of 32 words of a code with sixteen parity bytes, which all have the same
-/// marks. They are bytes and not vectors, since they are read word by word.
+/// marks. They are bytes and not vectors, since pieces of columns read them word by word.
 #[derive(Drop)]
 pub struct Patches {
     /// Byte `n` of the list with number `i` is for the marked place that `i` others come before, in word `n`.

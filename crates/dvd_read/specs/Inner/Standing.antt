@@ -2,8 +2,7 @@
 use Rattle.std.specs.Prelude.{◌≡◌, ℕ, ◌+◌, ◌-◌, ◌<◌, ◌≤◌, Bool, true, List, [], is_some, length, map, slice_index, slice_index_or, Some}
 use Rattle.coding.specs.Field.{alpha, power}
 use Rattle.coding.specs.Product.{column, line, place}
-use Rattle.coding.specs.Filling.{AgreeUnmarked}
-use Rattle.coding.specs.TwoPass.{column_answer, failed_of}
+use Rattle.coding.specs.TwoPass.{column_answer}
 use Rattle.coding.specs.Words.{IsCodeword, value}
 use Rattle.dvd_capture.specs.Answers.{IsAnswer, marks_line}
 use Rattle.dvd_capture.specs.declared.parts.AnswerRow.{AnswerRow}
@@ -19,11 +18,6 @@ AreCodewords answers =
 pub record AreOwnFrom (answers : List AnswerRow) (start : ℕ) (piece : List ColumnAnswer) : Type 0 where
   pub are : (k : ℕ) (default : ColumnAnswer) → k < length piece
       → (slice_index_or piece k default).bytes ≡ column (answer_bytes answers) (start + k)
-
--- these have, in each row that didn't fail, the bytes of the columns of these answers from `start` on
-pub record AreKeptFrom (answers : List AnswerRow) (start : ℕ) (piece : List ColumnAnswer) : Type 0 where
-  pub are : (k : ℕ) (default : ColumnAnswer) → k < length piece
-      → AgreeUnmarked (failed_of (map answer_word answers)) (column (answer_bytes answers) (start + k)) (slice_index_or piece k default).bytes
 
 -- a block has the answers of all rows that didn't fail
 abbrev pub AreRowsKept : List AnswerRow → List (List ℕ) → Type 0
