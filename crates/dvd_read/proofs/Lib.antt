@@ -16,6 +16,5 @@ pub mod SavedFrames
 pub mod SavedLaws
 pub mod HeldAnswers
 pub mod Holding
-pub mod AlternatingLanes
 pub mod ParityRows
 pub mod Completing

@@ -1,5 +1,4 @@
 -- What only the private functions of this crate promise. No public contract and no law cites these pages.
 pub mod Found
 pub mod Saved
-pub mod Squares
 pub mod Standing

@@ -4,10 +4,10 @@
 //! alone. They are found for 32 columns at once, in a vector for each power; column `n` of the 32 has lane `n` of each.
 //! Patches are the bytes to add in the failed rows, found for 32 columns at once: each is tested before it counts. A
 //! lane of `any_of` is 0 exactly where that lane of each vector is: so one vector says which of 32 columns are
-//! codewords. In clauses, of the columns from `start` on: `AreOwnFrom`, they have the bytes of the rows' answers, and
-//! `AreCopied`, so far those of the rows before one; `AreColumnsFrom`, they are answered; `AreColumnsHeld`, the rows'
-//! answers have all their bytes. `Completes` says that patches not noted as wrong make a column a codeword, and
-//! `AreCompleted` that columns of the rows' answers are what the second pass answers to them.
+//! codewords. In clauses, of the columns from `start` on: `AreOwnFrom`, they have the bytes of the rows' answers;
+//! `AreColumnsFrom`, they are answered; `AreColumnsHeld`, the rows' answers have all their bytes. `Completes` says that
+//! patches not noted as wrong make a column a codeword, and `AreCompleted` that columns of the rows' answers are what
+//! the second pass answers to them.
 ghost use Rattle.std.specs.Prelude.{◌≡◌, ℕ, ◌+◌, ◌<◌, ◌≤◌, List, All, IsTrue, true, false, length, map, slice_index, slice_index_or, take, position, not, MatchOption};
 ghost use Rattle.coding.specs.Field.{alpha, plus, power};
 ghost use Rattle.coding.specs.Words.{IsByte, IsCodeword, value};
@@ -20,18 +20,16 @@ ghost use Rattle.rs_decode.specs.Patches.{Completes, patched};
 ghost use Rattle.dvd_read.specs.Parts.{AreColumnsFrom, AreSameAnswers, answer_bytes, answer_word, column_word};
 ghost use Rattle.dvd_read.specs.Inner.Found.{AreRightFrom, IsFirstWrongRow, words_of_columns};
 ghost use Rattle.dvd_read.specs.Calls.{AreColumnsAnswered};
-ghost use Rattle.dvd_read.specs.Inner.Standing.{AreColumnsOf, AreCompleted, AreCopied, AreOwnFrom};
+ghost use Rattle.dvd_read.specs.Inner.Standing.{AreCompleted, AreOwnFrom};
 
+use crate::copying::copy_columns;
 use crate::lanes::lane_of;
 use crate::rows::{MOST_FAILED, mark_failed};
-use crate::squares::copy_squares;
 use arrayvec::ArrayVec;
 use dvd_capture::parts::{AnswerRow, ColumnAnswer};
 use rs_code::Po;
 use rs_decode::{Erasures, Patches, decode_from, prove_bytes};
-use rs_lanes::{
-    Thirds, any_of, are_zeros, column_values_by, load, load_transposed, store, transposed_values,
-};
+use rs_lanes::{Thirds, any_of, are_zeros, column_values_by, load, store, transposed_values};
 use std::simd::prelude::*;
 
 /// Answers all columns of the rows' answers, on this thread. Where bytes added in the failed rows make each column a
@@ -172,87 +170,6 @@ fn add_lanes(lanes: u8x32, row: &mut [u8; 182], at: usize)
     prove_bytes(row);
 }
 
-// Writes columns of the rows' bytes, of failed rows too: sixteen at a time, the lanes of a vector that squares have.
-// A failed row is marked, so its bytes don't count and needn't be set to 0: all columns are copied alike.
-fn copy_columns(answers: &[AnswerRow], start: usize, piece: &mut [ColumnAnswer])
-    requires rows { length answers.now ≡ 208 }
-    requires columns { start + length piece.old ≤ 182 }
-    ensures { AreOwnFrom answers.now start piece.new }
-{
-    for tile in 0..piece.len().div_ceil(16) {
-        let at = 16 * tile;
-        let end = piece.len().min(at + 16);
-        copy_tile(answers, start + at, &mut piece[at..end]);
-    }
-}
-
-// Writes at most sixteen columns. Where there are sixteen, their number is a constant: squares of their bytes stay in
-// registers. There are fewer at the end of a piece alone.
-fn copy_tile(answers: &[AnswerRow], start: usize, piece: &mut [ColumnAnswer])
-    requires rows { length answers.now ≡ 208 }
-    requires few { length piece.old ≤ 16 }
-    requires columns { start + length piece.old ≤ 182 }
-    ensures size { length piece.new ≡ length piece.old }
-    ensures own { AreOwnFrom answers.now start piece.new }
-{
-    if piece.len() == 16 {
-        copy_squares(answers, start, piece);
-    } else {
-        copy_few(answers, start, piece);
-    }
-}
-
-// The same for any number of them.
-fn copy_few(answers: &[AnswerRow], start: usize, piece: &mut [ColumnAnswer])
-    requires rows { length answers.now ≡ 208 }
-    requires few { length piece.old ≤ 16 }
-    requires columns { start + length piece.old ≤ 182 }
-    ensures size { length piece.new ≡ length piece.old }
-    ensures own { AreOwnFrom answers.now start piece.new }
-{
-    for group in 0..6 {
-        copy_rows(answers, 32 * group, start, piece);
-    }
-    // 208 is no multiple of 32: the last 32 rows repeat sixteen of the group before. The groups come in rising order,
-    // since `copy_rows` ensures only that the rows before its own stay.
-    copy_rows(answers, 176, start, piece);
-}
-
-// Writes into each of at most sixteen columns the bytes of the 32 rows' answers from `top` on. `wide` says what the
-// type does: the prover doesn't know the length of an array in a list.
-fn copy_rows(answers: &[AnswerRow], top: usize, start: usize, piece: &mut [ColumnAnswer])
-    requires rows { length answers.now ≡ 208 }
-    requires top { top + 32 ≤ 208 }
-    requires few { length piece.old ≤ 16 }
-    requires columns { start + length piece.old ≤ 182 }
-    ensures size { length piece.new ≡ length piece.old }
-    ensures wide { (j : ℕ) (default : ColumnAnswer) → j < length piece.new → length (slice_index_or piece.new j default).bytes ≡ 208 }
-    ensures copied { AreCopied answers.now start piece.old top → AreCopied answers.now start piece.new (top + 32) }
-{
-    // Sixteen places are transposed even where fewer follow: the last sixteen begin at place 166. So column `start` is
-    // vector `start - at` of them.
-    let at = start.min(166);
-    let transposed = load_transposed(answers, top, at);
-    for (j, column) in piece.iter_mut().enumerate() {
-        put_lanes(transposed[start - at + j], top, &mut column.bytes);
-    }
-}
-
-/// Writes 32 rows, which are transposed, into all columns, from place `top` on: vector `j` has their bytes in column
-/// `j`. Rows before them stay. Also ensures the lengths of columns, which have their type.
-pub(crate) fn copy_transposed(transposed: &[u8x32; 182], top: usize, columns: &mut [ColumnAnswer])
-    requires top { top + 32 ≤ 208 }
-    requires columns { length columns.old ≡ 182 }
-    ensures size { length columns.new ≡ 182 }
-    ensures wide { (j : ℕ) (default : ColumnAnswer) → j < 182 → length (slice_index_or columns.new j default).bytes ≡ 208 }
-    ensures copied { (rows : List (List ℕ)) → ((j n : ℕ) → j < 182 → n < 32 → place transposed.now j n ≡ place rows (top + n) j)
-        → AreColumnsOf rows columns.old top → AreColumnsOf rows columns.new (top + 32) }
-{
-    for j in 0..182usize {
-        put_lanes(transposed[j], top, &mut columns[j].bytes);
-    }
-}
-
 /// Whether the columns of the rows' answers are codewords as they are.
 pub(crate) fn are_codewords(answers: &[AnswerRow]) -> bool
     requires { length answers.now ≡ 208 }
@@ -278,16 +195,6 @@ pub(crate) fn mark_answered(columns: &mut [ColumnAnswer])
     for column in columns.iter_mut() {
         column.answered = true;
     }
-}
-
-// Writes 32 bytes of a column. Also ensures its length, which the type of the array has and a slice wouldn't.
-fn put_lanes(lanes: u8x32, at: usize, word: &mut [u8; 208])
-    requires { at + 32 ≤ 208 }
-    ensures size { length word.new ≡ 208 }
-    ensures set { (n : ℕ) → n < 32 → slice_index word.new (at + n) ≡ slice_index lanes n }
-    ensures below { (i : ℕ) → i < at → slice_index word.new i ≡ slice_index word.old i }
-{
-    store(lanes, word, at);
 }
 
 // Notes that no column is answered. Of a block that was read before, some may be noted as answered.

@@ -3,6 +3,7 @@
 #![tactic(auto)]
 
 mod columns; // the second pass: columns of the rows' answers
+mod copying; // columns copied of rows
 mod fixed; // what was fixed of a block that is read
 mod frames; // the checks of the sixteen data frames
 mod kept; // whether the columns keep the rows that were answered
@@ -13,7 +14,6 @@ mod passes; // both passes, and the test of the rows
 mod reading; // a captured block read as an entry of a plan
 mod rescue; // the frames that can be saved, of a refused block too
 mod rows; // the first pass: rows
-mod squares; // squares of rows' answers, transposed
 
 pub use dvd_decoding::Cause;
 pub use fixed::Fixed;

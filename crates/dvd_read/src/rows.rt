@@ -17,7 +17,7 @@ ghost use Rattle.dvd_read.specs.Parts.{AreAnswersFrom, answer_word};
 ghost use Rattle.dvd_read.specs.Inner.Standing.{AreAnswersBefore, AreColumnsOf, AreOwnFrom, AreAsReceivedBefore, AreAsReceivedFrom, IsAsReceived, top_of};
 ghost use Rattle.coding.specs.Product.{line, place};
 
-use crate::columns::copy_transposed;
+use crate::copying::copy_transposed;
 use crate::lanes::lane_of;
 use arrayvec::ArrayVec;
 use dvd_capture::parts::{AnswerRow, ColumnAnswer, Marks, Received};

@@ -2,7 +2,7 @@
 use Rattle.std.proofs.Common.{◌≡◌, ℕ, ◌+◌, ◌<◌, length, get_or}
 use Rattle.coding.specs.Product.{place}
 use Rattle.dvd_capture.specs.declared.parts.ColumnAnswer.{ColumnAnswer}
-use Rattle.dvd_read.proofs.columns.copy_transposed.Given as goal
+use Rattle.dvd_read.proofs.copying.copy_transposed.Given as goal
 
 -- the columns before have the 32 bytes, and all have those before these still
 abbrev pub invariant-loop-j : goal.invariant-loop-j

@@ -1,10 +1,10 @@
--- The proof of `copy_transposed` in src/columns.rt.
+-- The proof of `copy_transposed` in src/copying.rt.
 use Rattle.std.proofs.Common.{◌≡◌, ◌∙◌, ℕ, ◌+◌, ◌-◌, ◌<◌, ◌≤◌, ◌⊎◌, inl, inr, List, get_or, ap, arith}
 use Rattle.std.proofs.lemmas.Bool.{cases_lt}
 use Rattle.coding.specs.Product.{place}
 use Rattle.dvd_capture.specs.declared.parts.ColumnAnswer.{ColumnAnswer}
 use Rattle.dvd_read.specs.Inner.Standing.{AreColumnsOf}
-use Rattle.dvd_read.proofs.columns.copy_transposed.Goals as goal
+use Rattle.dvd_read.proofs.copying.copy_transposed.Goals as goal
 
 -- the bytes of rows that are copied before a place, and those of 32 from there on
 both : (rows : List (List ℕ)) (transposed : List (List ℕ)) (old new : List ColumnAnswer) (top : ℕ)

@@ -1,8 +1,8 @@
--- The proof of `copy_rows` in src/columns.rt.
+-- The proof of `copy_few` in src/copying.rt.
 use Rattle.std.proofs.Common.{◌≡◌, ℕ, ◌+◌, ◌-◌, [], get_or, ap, ◌∙◌, arith}
 use Rattle.rs_lanes.proofs.ColumnLemmas.{group_more}
 use Rattle.dvd_read.specs.Parts.{answer_bytes}
-use Rattle.dvd_read.proofs.columns.copy_rows.Goals as goal
+use Rattle.dvd_read.proofs.copying.copy_few.Goals as goal
 
 pub returns-clause-copied : goal.returns-clause-copied
 returns-clause-copied c = λ copied j i d within below.

@@ -1,8 +1,8 @@
--- What each iteration of the loop in `copy_rows` keeps.
+-- What each iteration of the loop in `copy_few` keeps.
 use Rattle.std.proofs.Common.{◌≡◌, ℕ, ◌+◌, ◌-◌, ◌<◌, ◌≤◌, length, get_or}
 use Rattle.coding.specs.Product.{place}
 use Rattle.dvd_capture.specs.declared.parts.ColumnAnswer.{ColumnAnswer}
-use Rattle.dvd_read.proofs.columns.copy_rows.Given as goal
+use Rattle.dvd_read.proofs.copying.copy_few.Given as goal
 
 -- the columns before have their 32 bytes, and those above as they were; the others are as they were
 abbrev pub invariant-loop-j : goal.invariant-loop-j

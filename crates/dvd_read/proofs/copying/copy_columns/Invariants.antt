@@ -3,7 +3,7 @@ use Rattle.std.proofs.Common.{◌≡◌, ℕ, ◌+◌, ◌*◌, ◌<◌, length,
 use Rattle.coding.specs.Product.{column}
 use Rattle.dvd_capture.specs.declared.parts.ColumnAnswer.{ColumnAnswer}
 use Rattle.dvd_read.specs.Parts.{answer_bytes}
-use Rattle.dvd_read.proofs.columns.copy_columns.Given as goal
+use Rattle.dvd_read.proofs.copying.copy_columns.Given as goal
 
 -- the columns of the tiles that are done are copied
 abbrev pub invariant-loop-tile : goal.invariant-loop-tile

@@ -1,7 +1,7 @@
--- What each iteration of the loop in `copy_few` keeps.
+-- What each iteration of the loop in `copy_tile` keeps.
 use Rattle.std.proofs.Common.{◌≡◌, ◌*◌, length}
 use Rattle.dvd_read.specs.Inner.Standing.{AreCopied}
-use Rattle.dvd_read.proofs.columns.copy_few.Given as goal
+use Rattle.dvd_read.proofs.copying.copy_tile.Given as goal
 
 -- the rows of the groups that are done are copied
 abbrev pub invariant-loop-group : goal.invariant-loop-group

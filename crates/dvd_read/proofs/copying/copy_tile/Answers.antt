@@ -1,7 +1,7 @@
--- The proof of `copy_few` in src/columns.rt.
+-- The proof of `copy_tile` in src/copying.rt.
 use Rattle.std.proofs.Common.{◌+◌, get_or, arith}
 use Rattle.dvd_read.proofs.Standing.{column-copied}
-use Rattle.dvd_read.proofs.columns.copy_few.Goals as goal
+use Rattle.dvd_read.proofs.copying.copy_tile.Goals as goal
 
 pub loop-group-preserved : goal.loop-group-preserved
 loop-group-preserved c = record {
