@@ -11,7 +11,8 @@ ghost use Rattle.coding.specs.Product.{line, place, column, IsParityAdded, IsPro
 use crate::buffers::Lines;
 use rs_code::{Pi, Po};
 use rs_lanes::{
-    any_of, are_zeros, column_values, inner_parity, outer_parity, parity_of_columns, row_values,
+    Thirds, any_of, are_zeros, column_values, inner_parity, outer_parity, parity_of_columns,
+    row_values,
 };
 use std::simd::prelude::*;
 
@@ -43,15 +44,19 @@ pub fn rows_parity(rows: &mut [[u8; 182]])
     ensures size { length rows.new ≡ length rows.old }
     ensures encoded { EachIndex rows.new (λ i. IsEncoded 182 10 (take 172 (line rows.old i)) (line rows.new i)) }
 {
+    // Room for all groups, so that it is set to zeros once: the rows transposed, and their thirds, pieces of 85 places
+    // from which values are found.
+    let mut transposed = [u8x32::splat(0); 182];
+    let mut thirds = [[u8x32::splat(0); 3]; 85];
     for group in 0..rows.len().div_ceil(32) {
         let at = 32 * group;
         let end = rows.len().min(at + 32);
-        group_parity(&mut rows[at..end]);
+        group_parity(&mut transposed, &mut thirds, &mut rows[at..end]);
     }
 }
 
 // The same of at most 32 rows: 32 is the number of lanes of a vector.
-fn group_parity(rows: &mut [[u8; 182]])
+fn group_parity(transposed: &mut [u8x32; 182], thirds: &mut Thirds, rows: &mut [[u8; 182]])
     requires { length rows.old ≤ 32 }
     ensures size { length rows.new ≡ length rows.old }
     ensures encoded { EachIndex rows.new (λ i. IsEncoded 182 10 (take 172 (line rows.old i)) (line rows.new i)) }
@@ -59,21 +64,21 @@ fn group_parity(rows: &mut [[u8; 182]])
     // A whole group is encoded where it is, from its first row, 0. The 192 rows of one worker are six whole groups;
     // a piece of several workers may leave fewer than 32 rows.
     if rows.len() == 32 {
-        inner_parity(rows, 0);
+        inner_parity(transposed, thirds, rows, 0);
     } else {
-        few_rows_parity(rows);
+        few_rows_parity(transposed, thirds, rows);
     }
 }
 
 // The same in a buffer, since the vectors need 32 rows: those of this group alone are copied back. Rows beside them
 // can't fill the group, since another worker may have them.
-fn few_rows_parity(rows: &mut [[u8; 182]])
+fn few_rows_parity(transposed: &mut [u8x32; 182], thirds: &mut Thirds, rows: &mut [[u8; 182]])
     requires { length rows.old ≤ 32 }
     ensures size { length rows.new ≡ length rows.old }
     ensures encoded { EachIndex rows.new (λ i. IsEncoded 182 10 (take 172 (line rows.old i)) (line rows.new i)) }
 {
     let mut buffer = with_zeros_below(rows);
-    inner_parity(&mut buffer, 0);
+    inner_parity(transposed, thirds, &mut buffer, 0);
     rows.copy_from_slice(&buffer[..rows.len()]);
 }
 
@@ -97,16 +102,18 @@ pub fn columns_parity(lines: &Lines, start: usize, cells: &mut [[u8; 16]])
     ensures size { length cells.new ≡ length cells.old }
     ensures encoded { EachIndex cells.new (λ k. IsCodeword 208 16 (take 192 (column (lines_rows lines.now) (start + k)) ++ line cells.new k)) }
 {
+    // Room for all groups.
+    let mut thirds = [[u8x32::splat(0); 3]; 85];
     for group in 0..cells.len().div_ceil(32) {
         let at = 32 * group;
         let end = cells.len().min(at + 32);
-        group_cells(lines, start + at, &mut cells[at..end]);
+        group_cells(&mut thirds, lines, start + at, &mut cells[at..end]);
     }
 }
 
 // The same of at most 32 cells. Unlike rows, columns are only read, and each worker may read all: so a group that isn't
 // whole is filled with columns beside it, whose parity isn't written.
-fn group_cells(lines: &Lines, start: usize, cells: &mut [[u8; 16]])
+fn group_cells(thirds: &mut Thirds, lines: &Lines, start: usize, cells: &mut [[u8; 16]])
     requires few { length cells.old ≤ 32 }
     requires columns { start + length cells.old ≤ 182 }
     ensures size { length cells.new ≡ length cells.old }
@@ -115,7 +122,7 @@ fn group_cells(lines: &Lines, start: usize, cells: &mut [[u8; 16]])
     // The parity of 32 columns is found even where fewer follow: the last 32 begin at column 150. Lane `start - left`
     // is that of column `start`.
     let left = start.min(150);
-    let parity = parity_of_columns(&lines.rows()[..192], left);
+    let parity = parity_of_columns(thirds, &lines.rows()[..192], left);
     for (k, cell) in cells.iter_mut().enumerate() {
         put_cell(&parity, start - left + k, cell);
     }

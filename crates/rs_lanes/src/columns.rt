@@ -31,11 +31,13 @@ pub fn outer_parity(rows: &[[u8; 182]], parity: &mut [[u8; 182]])
     ensures sizes { (k : ℕ) → k < 16 → length (line parity.new k) ≡ 182 }
     ensures encoded { (j : ℕ) → j < 182 → IsEncoded 208 16 (column rows.now j) (column rows.now j ++ column parity.new j) }
 {
+    // Room for all groups, so that it is set to zeros once.
+    let mut thirds = [[u8x32::splat(0); 3]; 85];
     for group in 0..5 {
-        put_parity(rows, 32 * group, parity);
+        put_parity(&mut thirds, rows, 32 * group, parity);
     }
     // 182 is no multiple of 32: the last 32 columns repeat ten of the group before, whose bytes are set again alike.
-    put_parity(rows, 150, parity);
+    put_parity(&mut thirds, rows, 150, parity);
 }
 
 /// The values of the 32 columns from `at` on of 208 rows at alpha^0 to alpha^15, a vector for each of these powers:
@@ -68,20 +70,20 @@ pub fn column_values_by<T: Row>(thirds: &mut Thirds, rows: &[T], at: usize) -> [
 
 /// The outer parity of the 32 columns from `at` on of 192 rows, a vector for each of its sixteen bytes. Lane `n` is for
 /// column `at + n`. A parity has the same values as its column with zeros in its place: the sum of both is then 0 at
-/// each root. It is public for callers that write the parity elsewhere than in rows.
-pub fn parity_of_columns(rows: &[[u8; 182]], at: usize) -> [u8x32; 16]
+/// each root. It is public for callers that write the parity elsewhere than in rows. Thirds are put where the caller has
+/// room for them, as in `column_values_by`.
+pub fn parity_of_columns(thirds: &mut Thirds, rows: &[[u8; 182]], at: usize) -> [u8x32; 16]
     requires at { at + 32 ≤ 182 }
     requires rows { length rows.now ≡ 192 }
     ensures lanes { EachIndex result (λ k. length (line result k) ≡ 32) }
     ensures encoded { (j : ℕ) → j < 32 → IsEncoded 208 16 (column rows.now (at + j)) (column rows.now (at + j) ++ column result j) }
 {
-    let mut thirds = [[u8x32::splat(0); 3]; 85];
-    put_thirds(rows, 192, at, &mut thirds);
-    parity_of(&PO_MATRIX, &values_of(&thirds))
+    put_thirds(rows, 192, at, thirds);
+    parity_of(&PO_MATRIX, &values_of(thirds))
 }
 
 // Sets the outer parity of the 32 columns from `at` on. All else stays, so that groups of columns are set one by one.
-fn put_parity(rows: &[[u8; 182]], at: usize, parity: &mut [[u8; 182]])
+fn put_parity(thirds: &mut Thirds, rows: &[[u8; 182]], at: usize, parity: &mut [[u8; 182]])
     requires at { at + 32 ≤ 182 }
     requires rows { length rows.now ≡ 192 }
     requires parity { length parity.old ≡ 16 }
@@ -91,7 +93,7 @@ fn put_parity(rows: &[[u8; 182]], at: usize, parity: &mut [[u8; 182]])
     ensures below { (k j : ℕ) → j < at → place parity.new k j ≡ place parity.old k j }
     ensures above { (k j : ℕ) → at + 32 ≤ j → place parity.new k j ≡ place parity.old k j }
 {
-    put_vectors(&parity_of_columns(rows, at), at, parity);
+    put_vectors(&parity_of_columns(thirds, rows, at), at, parity);
 }
 
 // Sets the bytes of 32 columns, from `at` on, to those of the vectors: vector `k` has the bytes of row `k`. All others

@@ -21,21 +21,25 @@ use crate::parity::parity_of;
 use crate::transposing::transpose;
 use std::simd::prelude::*;
 
-/// Sets the last ten bytes of the 32 rows from `top` on so that these rows are codewords. All else stays. The ten bytes
-/// that were there aren't read. Callers with fewer than 32 rows put them in 32 of their own, since all lanes are done.
-pub fn inner_parity(rows: &mut [[u8; 182]], top: usize)
+/// Sets the last ten bytes of the 32 rows from `top` on so that these rows are codewords. All other rows stay. The ten
+/// bytes that were there aren't read. Callers with fewer than 32 rows put them in 32 of their own, since all lanes are
+/// done. The transposed rows and their thirds are put where the caller has room for them, as in `row_values_by`.
+pub fn inner_parity(
+    transposed: &mut [u8x32; 182],
+    thirds: &mut Thirds,
+    rows: &mut [[u8; 182]],
+    top: usize,
+)
     requires { top + 32 ≤ length rows.old }
     ensures size { length rows.new ≡ length rows.old }
     ensures encoded { (n : ℕ) → n < 32 → IsEncoded 182 10 (take 172 (line rows.old (top + n))) (line rows.new (top + n)) }
     ensures below { (i : ℕ) → i < top → line rows.new i ≡ line rows.old i }
     ensures above { (i : ℕ) → top + 32 ≤ i → line rows.new i ≡ line rows.old i }
 {
-    let mut transposed = [u8x32::splat(0); 182];
-    transpose(rows, top, &mut transposed);
-    let mut thirds = [[u8x32::splat(0); 3]; 85];
+    transpose(rows, top, transposed);
     // With zeros in place of the parity, the values are those that the parity needs.
-    put_thirds(&transposed, 172, &mut thirds);
-    let parity = parity_of(&PI_MATRIX, &values_of(&thirds));
+    put_thirds(transposed, 172, thirds);
+    let parity = parity_of(&PI_MATRIX, &values_of(thirds));
     for n in 0..32 {
         put_end(&parity, n, &mut rows[top + n]);
     }
