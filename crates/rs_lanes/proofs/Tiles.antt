@@ -1,7 +1,7 @@
--- Tiles of sixteen vectors: alternating lanes of two vectors (in_turns), what their pairs of rows hold (HasPairs,
--- pairs_more, pairs_wide), and vectors by places: what holds below a place, and of sixteen vectors from it on, holds of
--- all of them (places_more).
-use Rattle.std.proofs.Common.{◌≡◌, ℕ, ◌+◌, ◌-◌, ◌*◌, ◌/◌, ◌%◌, ◌<◌, List, [], ◌++◌, length, get_or, map, set, sym, ap, subst, ◌∙◌, inl, inr, arith, length-set, get_or-set_other}
+-- Tiles of sixteen vectors: alternating lanes of two vectors (in_turns) and of four (alternate_four), what their pairs of
+-- rows hold (HasPairs, pairs_more, pairs_wide), and vectors by places: what holds below a place, and of sixteen vectors
+-- from it on, holds of all of them (places_more).
+use Rattle.std.proofs.Common.{◌≡◌, ℕ, ◌+◌, ◌-◌, ◌*◌, ◌/◌, ◌%◌, ◌<◌, List, [], ◌∷◌, ◌++◌, length, get_or, map, set, sym, ap, subst, ◌∙◌, inl, inr, arith, length-set, get_or-set_other}
 use Rattle.std.proofs.lemmas.Bool.{cases_eq, cases_lt}
 use Rattle.std.specs.List.{range_with_len}
 use Rattle.std.proofs.lemmas.Grind.{get_or-set_at}
@@ -26,6 +26,53 @@ in_turns-odd f a b n size below odd =
     get_or-map-range_with_len (λ j. get_or (a ++ b) (32 * (j % 2) + f j) 0) 0 32 n n 0 below (omega arith)
     ∙ ap (λ m. get_or (a ++ b) m 0) (omega arith)
     ∙ get_or-append-add a b (f n) 0
+
+-- z has lanes of x and y alternating, from the first of each half on or from its ninth
+abbrev pub Alternate : ℕ → List ℕ → List ℕ → List ℕ → Type 0
+Alternate last x y z =
+    ((n : ℕ) → n < 32 → n % 2 ≡ 0 → get_or z n 0 ≡ get_or x (16 * (n / 16) + (8 * last + n % 16 / 2)) 0)
+    × ((n : ℕ) → n < 32 → n % 2 ≡ 1 → get_or z n 0 ≡ get_or y (16 * (n / 16) + (8 * last + n % 16 / 2)) 0)
+
+-- of pairs that alternate, lanes of all four do
+pub alternate_four : (one two : ℕ) (a b c d x y z : List ℕ) → one < 2 → two < 2 → Alternate one a c x → Alternate one b d y → Alternate two x y z
+    → (n : ℕ) → n < 32 → get_or z n 0 ≡ place (a ∷ b ∷ c ∷ d ∷ []) (n % 4) (16 * (n / 16) + (4 * (2 * one + two) + n % 16 / 4))
+alternate_four one two a b c d x y z few small first second both n below =
+    let at : ℕ = 16 * (n / 16) + (8 * two + n % 16 / 2) in
+    let k : ℕ = 16 * (n / 16) + (4 * (2 * one + two) + n % 16 / 4) in
+    let lane : 16 * (at / 16) + (8 * one + at % 16 / 2) ≡ k = omega arith in
+    let four : ℕ → ℕ = λ r. place (a ∷ b ∷ c ∷ d ∷ []) r k in
+    elim (cases_eq (n % 2) 0) [
+      | inl even ↦
+          both.0 n below even
+          ∙ elim (cases_eq (n % 4) 0) [
+            | inl early ↦ first.0 at (omega arith) (omega arith) ∙ ap (λ m. get_or a m 0) lane ∙ ap four {x = 0} {y = n % 4} (omega arith)
+            | inr late ↦ first.1 at (omega arith) (omega arith) ∙ ap (λ m. get_or c m 0) lane ∙ ap four {x = 2} {y = n % 4} (omega arith)
+          ]
+      | inr odd ↦
+          both.1 n below (omega arith)
+          ∙ elim (cases_eq (n % 4) 1) [
+            | inl early ↦ second.0 at (omega arith) (omega arith) ∙ ap (λ m. get_or b m 0) lane ∙ ap four {x = 1} {y = n % 4} (omega arith)
+            | inr late ↦ second.1 at (omega arith) (omega arith) ∙ ap (λ m. get_or d m 0) lane ∙ ap four {x = 3} {y = n % 4} (omega arith)
+          ]
+    ]
+
+-- what holds of four numbers holds of each below four
+pub by_four : (P : ℕ → Type 0) → P 0 → P 1 → P 2 → P 3 → (q : ℕ) → q < 4 → P q
+by_four P first second third fourth q below =
+    elim (cases_eq q 0) [
+      | inl is ↦ subst P (sym is) first
+      | inr not_first ↦
+          elim (cases_eq q 1) [
+            | inl is ↦ subst P (sym is) second
+            | inr not_second ↦
+                elim (cases_eq q 2) [
+                  | inl is ↦ subst P (sym is) third
+                  | inr not_third ↦
+                      let last : 3 ≡ q = omega arith in
+                      subst P last fourth
+                ]
+          ]
+    ]
 
 -- the vectors below `to` have the places of 32 rows from `top` on
 pub record HasPlaces (rows : List (List ℕ)) (top to : ℕ) (transposed : List (List ℕ)) : Type 0 where

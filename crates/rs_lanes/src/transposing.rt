@@ -3,10 +3,11 @@
 //!
 //! This is done by tiles: a tile is sixteen vectors, with sixteen places of 32 rows. Its lower half is lanes 0 to 15 of
 //! all vectors, and its upper half lanes 16 to 31. Each half is a square of sixteen times sixteen bytes, and a square
-//! is transposed by four equal steps, each a riffle: two halves of a deck are put into one another, card by card. So
-//! each step moves 32 bytes at once, and no byte by itself. The steps are inlined, so that a tile stays in registers.
+//! is transposed by two equal steps, each a riffle: four quarters of a deck are put into one another, card by card. So
+//! each step moves 32 bytes at once, and no byte by itself. The steps are inlined, so that few vectors pass through
+//! memory.
 //! That a vector has 32 lanes is said in clauses, since in contracts its type doesn't say it.
-ghost use Rattle.std.specs.Prelude.{◌≡◌, ℕ, ◌+◌, ◌*◌, ◌/◌, ◌%◌, ◌<◌, ◌≤◌, length, map, slice_index, EachIndex};
+ghost use Rattle.std.specs.Prelude.{◌≡◌, ℕ, ◌+◌, ◌*◌, ◌/◌, ◌%◌, ◌<◌, ◌≤◌, [], ◌∷◌, length, map, slice_index, EachIndex};
 ghost use Rattle.coding.specs.Rows.{line, place};
 ghost use Rattle.rs_lanes.specs.Inner.Transposing.{IsRiffled, IsTransposed};
 
@@ -114,19 +115,19 @@ fn load_pair(one: &[u8], other: &[u8], at: usize) -> u8x32
 }
 
 // Transposes both halves of a tile. Within a half, the numbers of vector and lane, four bits each, are eight bits
-// together, which each step rotates by one. After four steps the two have changed places; three or five would not do.
+// together, which each step rotates by two. After two steps the two have changed places.
 #[inline(always)]
 fn transpose_tile(tile: &[u8x32; 16]) -> [u8x32; 16]
     requires { EachIndex tile.now (λ k. length (line tile.now k) ≡ 32) }
     ensures lanes { EachIndex result (λ k. length (line result k) ≡ 32) }
     ensures transposed { IsTransposed tile.now result }
 {
-    riffle(&riffle(&riffle(&riffle(tile))))
+    riffle(&riffle(tile))
 }
 
-// One of four equal steps: vectors `k` and `k + 8` become vectors `2 k` and `2 k + 1`, where their lanes alternate: the
-// first eight of each half in one, and the last eight in the other. No lane leaves its half, so that both halves are
-// transposed at once. A new tile is made: in place a step would overwrite vectors that it has yet to read.
+// One of two equal steps: vectors `k`, `k + 4`, `k + 8` and `k + 12` become vectors `4 k` to `4 k + 3`, where their
+// lanes alternate. No lane leaves its half, so that both halves are transposed at once. A new tile is made: in place a
+// step would overwrite vectors that it has yet to read.
 #[inline(always)]
 fn riffle(tile: &[u8x32; 16]) -> [u8x32; 16]
     requires { EachIndex tile.now (λ k. length (line tile.now k) ≡ 32) }
@@ -134,11 +135,38 @@ fn riffle(tile: &[u8x32; 16]) -> [u8x32; 16]
     ensures riffled { IsRiffled tile.now result }
 {
     let mut riffled = [u8x32::splat(0); 16];
-    for k in 0..8 {
-        riffled[2 * k] = first_lanes(tile[k], tile[k + 8]);
-        riffled[2 * k + 1] = last_lanes(tile[k], tile[k + 8]);
+    for k in 0..4 {
+        let four = alternating(tile[k], tile[k + 4], tile[k + 8], tile[k + 12]);
+        riffled[4 * k] = four[0];
+        riffled[4 * k + 1] = four[1];
+        riffled[4 * k + 2] = four[2];
+        riffled[4 * k + 3] = four[3];
     }
     riffled
+}
+
+// Four vectors whose lanes alternate: the first four lanes of each half in one, the next four in the next, and so on. It
+// is done by pairs, in two steps for the same four vectors: a step of pairs for all sixteen would hold twice as many
+// registers as a processor for `x86-64-v2` has.
+#[inline(always)]
+fn alternating(a: u8x32, b: u8x32, c: u8x32, d: u8x32) -> [u8x32; 4]
+    requires a { length a ≡ 32 }
+    requires b { length b ≡ 32 }
+    requires c { length c ≡ 32 }
+    requires d { length d ≡ 32 }
+    ensures lanes { (q : ℕ) → q < 4 → length (line result q) ≡ 32 }
+    ensures each { (q n : ℕ) → q < 4 → n < 32 → place result q n ≡ place (a ∷ b ∷ c ∷ d ∷ []) (n % 4) (16 * (n / 16) + (4 * q + n % 16 / 4)) }
+{
+    let first_even = first_lanes(a, c);
+    let last_even = last_lanes(a, c);
+    let first_odd = first_lanes(b, d);
+    let last_odd = last_lanes(b, d);
+    [
+        first_lanes(first_even, first_odd),
+        last_lanes(first_even, first_odd),
+        first_lanes(last_even, last_odd),
+        last_lanes(last_even, last_odd),
+    ]
 }
 
 // The first eight lanes of each half of two vectors, alternating. In each half this is one instruction of the
