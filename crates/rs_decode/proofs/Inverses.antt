@@ -9,7 +9,8 @@ use Rattle.coding.specs.Field.{plus, product, power}
 use Rattle.coding.specs.Words.{IsByte, value}
 use Rattle.gf_field.proofs.FieldLaws.{plus-comm, plus-zero, power-zero, product-assoc, product-byte, product-comm, product-one, product-zero, zero-product}
 use Rattle.rs_code.proofs.Ring.{ring}
-use Rattle.rs_code.proofs.Values.{value-byte, value-cons, value-nil}
+use Rattle.rs_code.proofs.Values.{get_or-mul_scalar, length-mul_scalar, value-byte, value-cons, value-mul_scalar, value-nil}
+use Rattle.rs_code.specs.Inner.Polynomials.{mul_scalar}
 use Rattle.rs_code.specs.Inner.PowerSums.{power_sum}
 use Rattle.coding.specs.Rows.{place}
 use Rattle.rs_lanes.specs.Inner.Lanes.{HoldsLanes}
@@ -170,6 +171,28 @@ IsPolynomial-leading c byte = record {
       let other : k ≢ 0 = omega arith in
       rw get_or-set_other (get_or-zeros 32 k);
 }
+
+-- a multiple has multiples of the values
+pub IsPolynomial-multiple : (count c : ℕ) (lanes next : List ℕ) (f : ℕ → ℕ) → count ≤ 32 → length next ≡ 32
+    → ((k : ℕ) → k < 32 → get_or next k 0 ≡ product (get_or lanes k 0) c) → IsPolynomial count lanes f → IsPolynomial count next (λ x. product c (f x))
+IsPolynomial-multiple count c lanes next f few size each polynomial =
+    let taken : length (take count next) ≡ count = length-take-le count next (omega arith) in
+    let from : length (take count lanes) ≡ count = length-take-le count lanes (omega (arith, polynomial.size)) in
+    let word : take count next ≡ mul_scalar c (take count lanes) =
+    same_number_lists (take count next) (mul_scalar c (take count lanes)) (taken ∙ sym (length-mul_scalar c (take count lanes) ∙ from))
+    (λ k inside.
+    let below : k < count = omega (arith, taken) in
+    get_or-take count next k 0 below ∙ each k (omega arith) ∙ product-comm (get_or lanes k 0) c
+    ∙ sym (get_or-mul_scalar c (take count lanes) k ∙ ap (product c) (get_or-take count lanes k 0 below))) in
+    record {
+      size = size;
+      values = λ x. ap (λ xs. value xs x) word ∙ value-mul_scalar c (take count lanes) x ∙ ap (product c) (polynomial.values x);
+      zeros = λ k above.
+          elim (cases_lt k 32) [
+            | inl below ↦ each k below ∙ rw (polynomial.zeros k above) (zero-product c)
+            | inr past ↦ get_or_past next k 0 (omega arith)
+          ];
+    }
 
 -- the polynomial of all other points, divided by its value at one, is 1 there and 0 at the others
 pub basis-value : (points : List ℕ) (i j c d : ℕ) → i < length points → j < length points → product d c ≡ 1 → d ≡ slope points (get_or points i 0) (get_or points i 0)

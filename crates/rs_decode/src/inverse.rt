@@ -16,7 +16,7 @@ use crate::forney::{derivative, times_distance};
 use crate::syndromes::first_lanes;
 use arrayvec::ArrayVec;
 use gf_field::inv;
-use rs_lanes::mul_scalar;
+use rs_lanes::{mul_scalar, multiple};
 use std::simd::prelude::*;
 
 /// The inverse of the matrix whose row k has the k-th powers of at most sixteen points: its row i, times power sums, is
@@ -67,29 +67,39 @@ fn inverse_columns(points: &[u8]) -> [[u8; 16]; 16]
     ensures sums { HasSums points.now result }
 {
     let mut columns = [[0; 16]; 16];
+    let mut before = one();
     for i in 0..points.len() {
-        set_row(&mut columns, i, &basis(points, i)[..points.len()]);
+        set_row(&mut columns, i, &basis(before, points, i)[..points.len()]);
+        before = times_distance(before, points[i]);
     }
     columns
 }
 
+// The polynomial 1, in the first lane: the product of no distances.
+fn one() -> u8x32
+    ensures { IsPolynomial 1 result (λ x. 1) }
+{
+    let mut lanes = [0; 32];
+    lanes[0] = 1;
+    u8x32::from_array(lanes)
+}
+
 // The polynomial that is 1 at point `i` and 0 at all others, the highest power in the first lane. It is the product of
-// the distances to the others, divided by its value at that point. It begins with the inverse of that value and is
-// multiplied by the distances before and after `i`. It has 32 lanes, as the step that it shares with Forney's formula
-// has.
-fn basis(points: &[u8], i: usize) -> [u8; 32]
+// the distances to the others, divided by its value at that point. That to the points before `i` is `before`, which all
+// rows share: it is divided first, and then multiplied by the distances after `i`. It has 32 lanes, as the step that it
+// shares with Forney's formula has.
+fn basis(before: u8x32, points: &[u8], i: usize) -> [u8; 32]
     requires distinct { AreDistinct points.now }
     requires inside { i < length points.now }
     requires few { length points.now ≤ 16 }
+    requires before { IsPolynomial (1 + i) before (λ x. product 1 (distances (take i points.now) x)) }
     ensures size { length result ≡ 32 }
     ensures values { (j : ℕ) → j < length points.now
         → value (take (length points.now) result) (slice_index points.now j) ≡ (if i == j then 1 else 0) }
 {
     // The derivative at point `i` is the product of its distances to the others, and isn't 0.
-    let mut leading = [0; 32];
-    leading[0] = inv(derivative(points, i));
-    let before = times_distances(u8x32::from_array(leading), &points[..i]);
-    times_distances(before, &points[i + 1..]).to_array()
+    let divided = multiple(before, inv(derivative(points, i)));
+    times_distances(divided, &points[i + 1..]).to_array()
 }
 
 // A polynomial times (x + a) for each `a` of the others.

@@ -1,10 +1,12 @@
 -- The proof of `basis` in src/inverse.rt.
-use Rattle.std.proofs.Common.{◌≡◌, ◌+◌, ◌-◌, length, length-take-le, take, drop, get_or, add-one, ap, sym, ◌∙◌, arith}
+use Rattle.std.proofs.Common.{◌≡◌, suc, ◌+◌, ◌-◌, length, take, drop, get_or, add-one, ap, sym, ◌∙◌, arith}
 use Rattle.std.proofs.lemmas.List.{length-drop, take_all}
 use Rattle.coding.specs.Field.{product}
 use Rattle.coding.specs.Words.{value}
+use Rattle.gf_field.proofs.FieldLaws.{one-product}
 use Rattle.rs_decode.specs.Inner.Locator.{distances}
-use Rattle.rs_decode.proofs.Inverses.{IsPolynomial-leading, basis-value}
+use Rattle.rs_decode.proofs.Inverses.{IsPolynomial-multiple, basis-value}
+use Rattle.rs_decode.proofs.MarksTakenOut.{distances-byte}
 use Rattle.rs_decode.proofs.inverse.basis.Goals as goal
 
 pub returns-clause-values : goal.returns-clause-values
@@ -16,12 +18,13 @@ returns-clause-values c = λ j within.
     let n = length points in
     let used = take i points in
     let others = take (n - (i + 1)) (drop (i + 1) points) in
-    let used_size : length used ≡ i = length-take-le i points (omega arith) in
     let others_are : others ≡ drop (i + 1) points = take_all (n - (i + 1)) (drop (i + 1) points) (omega (arith, length-drop (i + 1) points)) in
     let others_size : length others ≡ n - (i + 1) = ap length others_are ∙ length-drop (i + 1) points in
-    let all : 1 + length used + length others ≡ n = omega arith in
-    let before = c.times_distances-before.ensures.product 1 (λ y. factor) (omega arith) (IsPolynomial-leading factor (omega arith)) in
-    let after = c.times_distances.ensures.product (1 + length used) (λ y. product factor (distances used y)) (omega arith) before in
+    let all : 1 + i + length others ≡ n = omega arith in
+    let divided = IsPolynomial-multiple (1 + i) factor c.args.before c.multiple-divided.result (λ y. product 1 (distances used y)) (omega arith)
+    c.multiple-divided.ensures.size c.multiple-divided.ensures.each c.requires.before in
+    let after = c.times_distances.ensures.product (1 + i) (λ y. product factor (product 1 (distances used y))) (omega arith) divided in
     ap (λ m. value (take m c.times_distances.result) x) (sym all) ∙ after.values x
-    ∙ ap (λ xs. product (product factor (distances used x)) (distances xs x)) (others_are ∙ ap (λ m. drop m points) (add-one i))
+    ∙ ap (λ xs. product (product factor (product 1 (distances used x))) (distances xs x)) (others_are ∙ ap (λ m. drop m points) (add-one i))
+    ∙ ap (λ d. product (product factor d) (distances (drop (suc i) points) x)) (one-product (distances used x) (distances-byte used x))
     ∙ basis-value points i j factor c.derivative.result c.requires.inside within c.inv.ensures c.derivative.ensures.slope

@@ -4,7 +4,8 @@ use Rattle.std.proofs.lemmas.List.Elements.{All-from_get_or}
 use Rattle.coding.specs.Words.{IsByte}
 use Rattle.rs_decode.specs.Inner.Inverse.{row_sum}
 use Rattle.rs_decode.proofs.InverseSums.{HasSums-inverse}
-use Rattle.rs_decode.proofs.Inverses.{row_sum-same}
+use Rattle.rs_decode.proofs.Evaluator.{lanes-bytes}
+use Rattle.rs_decode.proofs.Inverses.{IsPolynomial-next, IsPolynomial-none, row_sum-same}
 use Rattle.rs_decode.proofs.inverse.inverse_columns.Goals as goal
 
 pub loop-i-preserved : goal.loop-i-preserved
@@ -23,7 +24,17 @@ loop-i-preserved c =
           (λ l inside.
           ap (λ m. row_sum m new i (get_or points l 0)) (sym taken) ∙ c.set_row.ensures.row (get_or points l 0) ∙ c.basis.ensures.values l inside)
           r below j within;
+      before =
+          IsPolynomial-next 1 i c.loop-i.before c.times_distance-before.result points (λ x. 1) (omega arith) (omega arith) c.times_distance-before.ensures.size
+          (lanes-bytes c.loop-i.before c.loop-i.auto.before.1) (lanes-bytes c.times_distance-before.result c.type_inv.before.1)
+          c.times_distance-before.ensures.first c.times_distance-before.ensures.each c.loop-i.invariant.before;
     }
+
+pub loop-i-init : goal.loop-i-init
+loop-i-init c = record {
+  rows = λ i j none. absurd (omega arith);
+  before = IsPolynomial-none 1 c.one-before.result c.args.points.now (λ x. 1) c.one-before.ensures;
+}
 
 pub returns-clause-sums : goal.returns-clause-sums
 returns-clause-sums c =

@@ -1,0 +1,7 @@
+-- The proof of `one` in src/inverse.rt.
+use Rattle.std.proofs.Common.{arith}
+use Rattle.rs_decode.proofs.Inverses.{IsPolynomial-leading}
+use Rattle.rs_decode.proofs.inverse.one.Goals as goal
+
+pub returns : goal.returns
+returns c = IsPolynomial-leading 1 (omega arith)
