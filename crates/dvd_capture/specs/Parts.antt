@@ -31,9 +31,13 @@ received_rows received = rows_in (received_bytes received)
 abbrev pub marks_of_row : RowMarks → List Bool
 marks_of_row marks = marks_of marks.bits
 
+-- the marks of several rows
+abbrev pub marks_of_rows : List RowMarks → List (List Bool)
+marks_of_rows rows = map marks_of_row rows
+
 -- the marks of the received rows
 abbrev pub marks_rows : Marks → List (List Bool)
-marks_rows marks = map marks_of_row marks.rows.items
+marks_rows marks = marks_of_rows marks.rows.items
 
 -- the 208 row answers
 abbrev pub answer_rows : Answers → List AnswerRow

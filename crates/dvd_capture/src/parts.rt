@@ -153,7 +153,7 @@ impl Received {
 }
 
 impl Marks {
-    ghost use Rattle.dvd_capture.specs.Parts.{marks_of_row, marks_rows};
+    ghost use Rattle.dvd_capture.specs.Parts.{marks_of_row, marks_of_rows, marks_rows};
     ghost use Rattle.dvd_capture.specs.Answers.{marks_line};
 
     /// No marks. `NoMemory` may come at any time, and nothing is taken then.
@@ -170,6 +170,14 @@ impl Marks {
         ensures { marks_of_row result.now ≡ marks_line (marks_rows self.now) i }
     {
         &self.rows[i]
+    }
+
+    /// The marks of all rows, lent as bits, for whoever answers several rows at once.
+    pub fn rows(&self) -> &[RowMarks]
+        ensures rows { marks_of_rows result.now ≡ marks_rows self.now }
+        ensures size { length result.now ≡ 208 }
+    {
+        &self.rows
     }
 
     /// Writes the marks of row `i`, as the list that decoders read. They ask for `is_clear` first, as most rows have

@@ -148,8 +148,8 @@ pub fn powers_of(exponent: usize) -> [u8; 16]
     bytes_of(&POWERS[exponent])
 }
 
-// The sixteen bytes of a row, read where it is as one vector. Of a copy, as `from_array` takes one, and of a number of
-// 128 bits the built program would put them together one by one.
+// The sixteen bytes of a row, read where it is as one vector: the built program reads a copy, as `from_array` takes one,
+// or a number of 128 bits in pieces, which takes longer.
 #[inline(always)]
 fn bytes_of(row: &[u64; 2]) -> [u8; 16]
     ensures { result ≡ row_bytes row.now }
