@@ -8,7 +8,8 @@ use Rattle.rs_decode.specs.Errors.{error_count}
 use Rattle.coding.specs.Filling.{marked}
 use Rattle.coding.specs.Nearest.{near_of}
 use Rattle.rs_decode.specs.declared.errors.Fix.{Fix}
-use Rattle.rs_decode.proofs.NearSearch.{near_of-some}
+use Rattle.rs_decode.proofs.Counting.{counts-from_near}
+use Rattle.rs_decode.proofs.NearSearch.{near_of-some, none-near_of}
 use Rattle.rs_decode.proofs.Marks.{marked-next}
 use Rattle.coding.specs.Product.{line}
 use Rattle.dvd_capture.proofs.Columns.{length-answers_of}
@@ -31,6 +32,11 @@ pub row_fixed : (row word : List ℕ) (marks : List Bool) (fix : Fix) (answer : 
 row_fixed row word marks fix answer near errors erased bytes_are fix_is =
     let said : AnswerBy row marks word (Some fix) = (near_of-some 182 10 row word marks (omega arith) near, errors, erased) in
     subst (AnswerBy row marks answer.bytes) (sym fix_is) (subst (λ bytes. AnswerBy row marks bytes (Some fix)) (sym bytes_are) said)
+
+-- with more than ten marks no codeword is near a row, whatever its bytes are
+pub lost-none : (row : List ℕ) (marks : List Bool) → length row ≡ 182 → length marks ≡ 182 → 10 < marked marks → near_of 182 10 row marks ≡ None
+lost-none row marks size marks_size many =
+    none-near_of 182 10 row marks size marks_size (λ word near. absurd (omega (arith, many, counts-from_near 182 10 row word marks near)))
 
 -- the word of an answer is what the first pass answers
 word_by : (row bytes : List ℕ) (marks : List Bool) (fix : Option Fix) → AnswerBy row marks bytes fix → answer_by fix bytes ≡ near_of 182 10 row marks

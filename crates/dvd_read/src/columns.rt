@@ -22,13 +22,12 @@ ghost use Rattle.dvd_read.specs.Inner.Found.{AreRightFrom, IsFirstWrongRow, word
 ghost use Rattle.dvd_read.specs.Calls.{AreColumnsAnswered};
 ghost use Rattle.dvd_read.specs.Inner.Standing.{AreCompleted, AreOwnFrom};
 
+use crate::column_group::{ColumnGroup, patches_for};
 use crate::copying::copy_columns;
-use crate::lanes::lane_of;
 use crate::rows::{MOST_FAILED, mark_failed};
-use arrayvec::ArrayVec;
 use dvd_capture::parts::{AnswerRow, ColumnAnswer};
 use rs_code::Po;
-use rs_decode::{Erasures, Patches, decode_from, prove_bytes};
+use rs_decode::{Erasures, Patches, prove_bytes};
 use rs_lanes::{Thirds, any_of, are_zeros, column_values_by, load, store, transposed_values};
 use std::simd::prelude::*;
 
@@ -237,9 +236,9 @@ fn answer_copied(
     }
 }
 
-// Answers at most 32 of these columns, by their values. The values that test a column are its syndromes too, so that a
-// column isn't read once more to be decoded. Where rows failed, all columns need bytes in these rows: they are found
-// for 32 at once. What the thirds were isn't read.
+// Answers at most 32 of these columns, in their places: their bytes are copies, so nothing received is lost. The values
+// that test a column are its syndromes too, so that a column isn't read once more to be decoded. Where rows failed, all
+// columns need bytes in these rows: they are found for 32 at once. What the thirds were isn't read.
 fn answer_group(
     code: &Po,
     answers: &[AnswerRow],
@@ -261,71 +260,11 @@ fn answer_group(
     // the rows' answers, where the bytes of 32 columns lie side by side, and so of the columns as they were copied.
     let left = start.min(150);
     let values = column_values_by(thirds, answers, left);
-    let wrong = any_of(&values);
-    let patches = patches_for(erasures, &values, wrong);
+    let group = ColumnGroup::new(code, &values);
+    let patches = patches_for(erasures, &values);
     for (k, column) in piece.iter_mut().enumerate() {
         let n = start - left + k;
-        // What is proposed is tested. Where it isn't right, the column is as it was, and is decoded by itself: only
-        // then are its syndromes listed.
-        if !fill_column(erasures, &patches, n, wrong[n], column) {
-            decode_column(code, erasures, lane_of(&values, n), column);
-        }
-    }
-}
-
-// What 32 columns with these values lack in the failed rows. Nothing is proposed where all are codewords, whose lanes
-// of `wrong` are zeros. Where a column is wrong though no row failed, the patches have no byte for it, and their test
-// refuses it.
-fn patches_for(erasures: &Erasures<208>, values: &[u8x32; 16], wrong: u8x32) -> Patches
-    ensures { (n : ℕ) (word : List ℕ) → n < 32 → length word ≡ 208
-        → ((k : ℕ) → k < 16 → place values.now k n ≡ value word (power alpha k)) → Completes result erasures.now.marks n word }
-{
-    if wrong.to_array() == [0; 32] {
-        Patches::none()
-    } else {
-        Patches::new(erasures, values)
-    }
-}
-
-// Answers one column as it is, or with the bytes that lane `n` has for it in the failed rows; `wrong` is zero where it
-// is a codeword. A codeword is its own answer, also where rows failed: each costs one, and at most sixteen did. Answers
-// whether the column could be answered so.
-fn fill_column(
-    erasures: &Erasures<208>,
-    patches: &Patches,
-    n: usize,
-    wrong: u8,
-    column: &mut ColumnAnswer,
-) -> bool
-    requires lane { n < 32 }
-    requires within { marked erasures.now.marks ≤ 16 }
-    requires wrong { wrong ≡ 0 → IsCodeword 208 16 column.old.bytes }
-    requires completes { Completes patches.now erasures.now.marks n column.old.bytes }
-    ensures answered { IsTrue result → column_word column.new ≡ near_of 208 16 column.old.bytes erasures.now.marks }
-    ensures same { result ≡ false → column.new.bytes ≡ column.old.bytes }
-{
-    if wrong == 0 {
-        column.answered = true;
-        return true;
-    }
-    column.answered = patches.fill(erasures, n, &mut column.bytes);
-    column.answered
-}
-
-// Answers one column by its syndromes, in its place: its bytes are a copy, so nothing received is lost. A column that
-// has no answer is as it was.
-fn decode_column(
-    code: &Po,
-    erasures: &Erasures<208>,
-    syndromes: ArrayVec<u8, 32>,
-    column: &mut ColumnAnswer,
-)
-    requires { syndromes.items ≡ syndromes_of 16 column.old.bytes }
-    ensures { column_word column.new ≡ near_of 208 16 column.old.bytes erasures.now.marks }
-{
-    match decode_from(code, erasures, syndromes, &mut column.bytes) {
-        Ok(_) => column.answered = true,
-        Err(_) => column.answered = false,
+        column.answered = group.answer(erasures, &patches, n, &mut column.bytes);
     }
 }
 

@@ -2,6 +2,7 @@
 //! agrees with what was received, and the checks of its sixteen data frames (clauses 16 and 17) give their Main Data.
 #![tactic(auto)]
 
+mod column_group; // 32 columns by their values, and the codeword near each
 mod columns; // the second pass: columns of the rows' answers
 mod copying; // columns copied of rows
 mod fixed; // what was fixed of a block that is read
@@ -13,14 +14,17 @@ pub mod parts; // the passes piece by piece, for work on several pieces at once
 mod passes; // both passes, and the test of the rows
 mod reading; // a captured block read as an entry of a plan
 mod rescue; // the frames that can be saved, of a refused block too
+mod row_group; // 32 rows by their values, and the codeword near each
 mod rows; // the first pass: rows
 
+pub use column_group::{ColumnGroup, patches_for};
 pub use dvd_decoding::Cause;
 pub use fixed::Fixed;
 pub use frames::{read_frame_at, sectors};
 pub use passes::two_pass;
 pub use reading::read_block;
 pub use rescue::salvage;
+pub use row_group::RowGroup;
 
 #[cfg(test)]
 mod tests;

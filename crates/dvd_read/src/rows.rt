@@ -1,47 +1,29 @@
 //! The first pass: each received row is answered by the codeword near it, or it fails.
-//! The values of a row are those of its polynomial at alpha^0 to alpha^9: its syndromes, all 0 for a codeword alone.
-//! They are found for 32 rows at once, in a vector for each power; row `n` of the 32 has lane `n` of each. From them it
-//! can also be proposed for 32 rows at once what to add to each. A proposal is tested before it counts, so a wrong one
-//! costs time and no answer. In clauses `IsAnswer` says that a row is answered so, by its bytes and its marks.
-//! The ten syndromes of one row are a list with room for 32, as decoders of codes of any length read them. A lane of
-//! `any_of` is 0 exactly where that lane of each vector is: so one vector says which of 32 rows are codewords.
+//! The values of a row are all 0 for a codeword alone (`row_group`). They are found for 32 rows at once, in a vector for
+//! each power of alpha; row `n` of the 32 has lane `n` of each. In clauses `IsAnswer` says that a row is answered so, by
+//! its bytes and its marks.
 ghost use Rattle.std.specs.Prelude.{◌≡◌, ℕ, ◌+◌, ◌<◌, ◌≤◌, ◌↔◌, IsTrue, false, length, map, replicate, slice_index_or, EachIndex};
 ghost use Rattle.coding.specs.Field.{alpha, power};
 ghost use Rattle.coding.specs.Words.{value};
 ghost use Rattle.rs_code.specs.Syndromes.{syndromes_of};
 ghost use Rattle.coding.specs.Filling.{marked};
 ghost use Rattle.dvd_capture.specs.Answers.{IsAnswer, marks_line};
-ghost use Rattle.dvd_capture.specs.Parts.{marks_rows, received_rows};
+ghost use Rattle.dvd_capture.specs.Parts.{marks_of_row, marks_rows, received_rows};
 ghost use Rattle.coding.specs.TwoPass.{failed_of};
 ghost use Rattle.dvd_read.specs.Parts.{AreAnswersFrom, answer_word};
 ghost use Rattle.dvd_read.specs.Inner.Standing.{AreAnswersBefore, AreColumnsOf, AreOwnFrom, AreAsReceivedBefore, AreAsReceivedFrom, IsAsReceived, top_of};
 ghost use Rattle.coding.specs.Product.{line, place};
 
 use crate::copying::copy_transposed;
-use crate::lanes::lane_of;
-use arrayvec::ArrayVec;
+use crate::row_group::{RowGroup, UNCHANGED, is_lost};
+use dvd_capture::RowMarks;
 use dvd_capture::parts::{AnswerRow, ColumnAnswer, Marks, Received};
 use rs_code::Pi;
-use rs_decode::{Erasures, Fix, decode_from};
 use rs_lanes::{any_of, are_zeros, row_values_by, transpose};
-use rs_propose::Proposals;
 use std::simd::prelude::*;
 
 // More failed rows than this leave no column an answer. Each costs one of the sixteen bytes of outer parity.
 pub(crate) const MOST_FAILED: u16 = 16;
-
-// A row with more marks than this is lost: each costs one of the ten bytes of inner parity.
-const MOST_MARKED: u32 = 10;
-
-// For fewer rows than this, to decode each takes less time than to propose for 32: proposing goes through all lanes,
-// however few are wrong. Any number gives the same answers.
-const FEWEST_PROPOSED: u16 = 4;
-
-// What is answered of a codeword without marks.
-const UNCHANGED: Fix = Fix {
-    errors: 0,
-    erased: 0,
-};
 
 /// Answers the rows from `start` on, one for each place of a piece of the answers. Several workers have a piece each;
 /// one alone has all rows. Each answer is overwritten, whatever it was. The code is made once by the caller, since its
@@ -154,27 +136,22 @@ fn answer_lost_rows(
     for (k, answer) in piece.iter_mut().enumerate() {
         let i = start + k;
         // Most groups begin with a row without marks, which needn't be counted.
-        if marks.is_clear(i) || !answer_lost(received.row(i), marks, i, answer) {
+        let row_marks = &marks.rows()[i];
+        if row_marks.is_clear() || !is_lost(row_marks) {
             return false;
         }
+        answer_lost(received.row(i), row_marks, answer);
     }
     true
 }
 
-// Answers row `i` if it is lost: no codeword is near it, whatever its bytes are. Answers whether it is. The received
-// bytes are copied though they don't count, as `answer_erased` leaves them in each failed row: nothing of an earlier
-// block stays, and a column in which they happen to be right is a codeword without a patch.
-// Few rows are marked, so what counts their marks stays out of the loop over all rows.
-#[inline(never)]
-fn answer_lost(row: &[u8; 182], marks: &Marks, i: usize, answer: &mut AnswerRow) -> bool
-    requires { i < 208 }
-    ensures { IsTrue result → IsAnswer row.now (marks_line (marks_rows marks.now) i) answer.new }
+// Answers a lost row: no codeword is near it. The received bytes are copied though they don't count, as `RowGroup` does
+// for each row that fails.
+fn answer_lost(row: &[u8; 182], marks: &RowMarks, answer: &mut AnswerRow)
+    requires { 10 < marked (marks_of_row marks.now) }
+    ensures { IsAnswer row.now (marks_of_row marks.now) answer.new }
 {
-    let is_lost = marks.count(i) > MOST_MARKED;
-    if is_lost {
-        answer.set(row, None);
-    }
-    is_lost
+    answer.set(row, None);
 }
 
 // Answers 32 rows as they were received, if all are codewords without marks, which their values show. Answers whether
@@ -197,8 +174,8 @@ fn take_group(
     are_zeros(any_of(values)) && take_unmarked(received, marks, start, piece)
 }
 
-// Answers at most 32 rows, by the values of 32: of those from `start` on, or of the last 32 where fewer are left.
-// Values show which rows are codewords. In clauses `top_of start` is the row of lane 0.
+// Answers at most 32 rows, by the values of 32: of those from `start` on, or of the last 32 where fewer are left. In
+// clauses `top_of start` is the row of lane 0.
 fn answer_group(
     code: &Pi,
     received: &Received,
@@ -215,122 +192,11 @@ fn answer_group(
     ensures answers { AreAnswersFrom (received_rows received.now) (marks_rows marks.now) start piece.new }
 {
     let top = start.min(176);
-    let wrong = any_of(values);
-    // Those of no row: where none are made, none is believed, and each row is decoded by itself.
-    let mut proposals = Proposals::none();
-    if are_many(marks, wrong, start, top, piece.len()) {
-        proposals.propose(values);
-    }
-    let mut row_marks = [false; 182];
+    let row_marks = &marks.rows()[start..start + piece.len()];
+    let group = RowGroup::new(code, values, start - top, row_marks);
     for (k, answer) in piece.iter_mut().enumerate() {
         let i = start + k;
-        let row = received.row(i);
-        // Marked rows go by themselves: each has its own marks, which are counted even where it is a codeword. All 182
-        // flags are set anew.
-        if !marks.is_clear(i) {
-            if !answer_lost(row, marks, i, answer) {
-                marks.row(i, &mut row_marks);
-                answer_marked(code, row, &row_marks, lane_of(values, i - top), answer);
-            }
-        } else if wrong[i - top] == 0 {
-            answer_codeword(row, answer);
-        } else {
-            let syndromes = lane_of(values, i - top);
-            answer_unmarked(code, row, syndromes, &proposals, i - top, answer);
-        }
-    }
-}
-
-// Whether it pays to propose for all rows at once, by the lanes that aren't zero: where at least four rows that have
-// no mark are no codewords. The last 32 rows repeat some of the group before, which don't count.
-// It has no clause: the answers are the same whether it pays or not.
-fn are_many(marks: &Marks, wrong: u8x32, start: usize, top: usize, count: usize) -> bool
-    requires top { top ≤ start }
-    requires lanes { start + count ≤ top + 32 }
-    requires rows { start + count ≤ 208 }
-{
-    let mut alone = 0;
-    for i in start..start + count {
-        if wrong[i - top] != 0 && marks.is_clear(i) {
-            alone += 1;
-        }
-    }
-    alone >= FEWEST_PROPOSED
-}
-
-// Answers one row without marks whose syndromes are zeros: a codeword is its own answer.
-fn answer_codeword(row: &[u8; 182], answer: &mut AnswerRow)
-    requires { (k : ℕ) → k < 10 → value row.now (power alpha k) ≡ 0 }
-    ensures { IsAnswer row.now (replicate 182 false) answer.new }
-{
-    take_row(row, answer);
-}
-
-// Answers one row without marks, by its syndromes: as is proposed for it in lane `n`, if that is right, and else by
-// itself. `believe` tests that the proposed bytes have these syndromes. As they are five at most, the row with them
-// added is then the codeword near it, which `decode` would find too.
-fn answer_unmarked(
-    code: &Pi,
-    row: &[u8; 182],
-    syndromes: ArrayVec<u8, 32>,
-    proposals: &Proposals,
-    n: usize,
-    answer: &mut AnswerRow,
-)
-    requires lane { n < 32 }
-    requires syndromes { syndromes.items ≡ syndromes_of 10 row.now }
-    ensures { IsAnswer row.now (replicate 182 false) answer.new }
-{
-    match proposals.believe(n, &syndromes, row, &mut answer.bytes) {
-        Some(fix) => answer.fix = Some(fix),
-        None => answer_alone(code, row, syndromes, answer),
-    }
-}
-
-// The same where nothing right is proposed. What the proposal has left in the answer's bytes is overwritten. It is
-// `answer_erased` without erasures, and its clause says so of 182 places that aren't marked.
-fn answer_alone(code: &Pi, row: &[u8; 182], syndromes: ArrayVec<u8, 32>, answer: &mut AnswerRow)
-    requires { syndromes.items ≡ syndromes_of 10 row.now }
-    ensures { IsAnswer row.now (replicate 182 false) answer.new }
-{
-    answer_erased(code, row, &Erasures::none(), syndromes, answer);
-}
-
-// Answers one row with marks, by its syndromes.
-fn answer_marked(
-    code: &Pi,
-    row: &[u8; 182],
-    marks: &[bool; 182],
-    syndromes: ArrayVec<u8, 32>,
-    answer: &mut AnswerRow,
-)
-    requires { syndromes.items ≡ syndromes_of 10 row.now }
-    ensures { IsAnswer row.now marks.now answer.new }
-{
-    // With more marks than ten parity bytes no codeword is near. `answer_group` has answered such rows before, but no
-    // clause here excludes them.
-    match Erasures::new(marks, 10) {
-        Some(erasures) => answer_erased(code, row, &erasures, syndromes, answer),
-        None => answer.set(row, None),
-    }
-}
-
-// Answers one row by its marked places and its syndromes, in the place of its answer. The received row stays, so a copy
-// of it is decoded. Where no codeword is near, the answer has no `fix`, and nobody reads its bytes as an answer.
-fn answer_erased(
-    code: &Pi,
-    row: &[u8; 182],
-    erasures: &Erasures<182>,
-    syndromes: ArrayVec<u8, 32>,
-    answer: &mut AnswerRow,
-)
-    requires { syndromes.items ≡ syndromes_of 10 row.now }
-    ensures { IsAnswer row.now erasures.now.marks answer.new }
-{
-    answer.bytes = *row;
-    match decode_from(code, erasures, syndromes, &mut answer.bytes) {
-        Ok(fix) => answer.fix = Some(fix),
-        Err(_) => answer.fix = None,
+        answer.fix = group.answer(i - top, received.row(i), &row_marks[k], &mut answer.bytes);
     }
 }
 

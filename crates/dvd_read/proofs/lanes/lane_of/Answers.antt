@@ -8,7 +8,7 @@ use Rattle.dvd_read.proofs.lanes.lane_of.Goals as goal
 
 pub returns-clause-syndromes : goal.returns-clause-syndromes
 returns-clause-syndromes g c = λ word same.
-    let vectors = c.args.vectors.now in
-    let all : c.loop-k.k ≡ length (column vectors c.args.n) = omega (arith, length-column vectors c.args.n, c.told-vectors) in
-    c.loop-k.invariant ∙ ap (λ m. take m (column vectors c.args.n)) all ∙ take-length (column vectors c.args.n)
-    ∙ lane-syndromes g.row.R c.args.n vectors word c.told-vectors same
+    let values = c.args.values.now in
+    let all : c.loop-k.k ≡ length (column values c.args.n) = omega (arith, length-column values c.args.n, c.told-values) in
+    c.loop-k.invariant ∙ ap (λ m. take m (column values c.args.n)) all ∙ take-length (column values c.args.n)
+    ∙ lane-syndromes g.row.R c.args.n values word c.told-values same
