@@ -15,8 +15,8 @@ use crate::cutting::for_each_piece;
 use crate::gate::Gate;
 use dvd_capture::parts::{AnswerRow, ColumnAnswer, Marks, Received};
 use dvd_capture::{Stage, Work};
-use dvd_read::parts::{answer_columns, answer_rows, end_passes, few_failed, hold_columns};
-use dvd_read::{Cause, Fixed};
+use dvd_read::parts::{Answered, answer_columns, answer_rows, end_passes, hold_columns};
+use dvd_read::{Cause, FailedRows, Fixed};
 use rs_code::{Pi, Po};
 use std::thread::Threads;
 
@@ -34,21 +34,20 @@ pub fn two_pass_par<R: Threads + Sync, G: Gate>(
     requires stage { HasBlock (stage_of work.old) }
     ensures { IsDecoded work.old work.new result }
 {
-    let are_held = answer_block(rt, workers, gate, work);
+    let answered = answer_block(rt, workers, gate, work);
     // What the passes came to is asked once all pieces are done.
-    end_passes(work, are_held)
+    end_passes(work, &answered)
 }
 
-/// Answers the rows and columns of a captured block. Answers whether the rows' answers are known to have all bytes of
-/// the columns. `false` says nothing: then all rows are tested. With more than sixteen failed rows the columns stay as
-/// they were, and `end_passes` doesn't look at them. `read_block_par` calls it too: for the frames it has to know where
-/// rows can be read whole.
+/// Answers the rows and columns of a captured block. With more than sixteen failed rows the columns stay as they were,
+/// and `end_passes` doesn't look at them. `read_block_par` calls it too: for the frames it has to know where rows can
+/// be read whole.
 pub(crate) fn answer_block<R: Threads + Sync, G: Gate>(
     rt: &R,
     workers: u8,
     gate: &G,
     work: &mut Work,
-) -> bool
+) -> Answered
     requires workers { (1 ≤ workers) × (workers ≤ 16) }
     requires stage { HasBlock (stage_of work.old) }
     ensures answered { AreBothAnswered work.new result }
@@ -65,8 +64,12 @@ pub(crate) fn answer_block<R: Threads + Sync, G: Gate>(
     work.set_stage(Stage::Fetched);
     let answers = work.answers.rows_mut();
     row_pass(rt, workers, gate, &work.received, &work.marks, answers);
+    // The failed rows are gathered once, on this thread, since all columns have them as marks.
+    let failed = FailedRows::of(work.answers.rows());
+    let answers = work.answers.rows_mut();
     let columns = work.columns.all_mut();
-    column_pass(rt, workers, gate, work.answers.rows_mut(), columns)
+    let are_held = column_pass(rt, workers, gate, answers, &failed, columns);
+    Answered { failed, are_held }
 }
 
 // The first pass. A single piece is done on this thread. Rows don't depend on each other, so the answers are the same
@@ -96,26 +99,27 @@ fn row_pass<R: Threads + Sync, G: Gate>(
 
 // The second pass, where no more rows failed than the sixteen parity bytes of a column correct; else the columns stay,
 // and nothing is claimed. Answers whether the rows' answers then have all bytes of the columns. Several workers answer
-// their pieces apart from each other, so the columns are compared with the rows at the end, on this thread. The failed
-// rows are noted once, on this thread too, since all columns have them as marks.
+// their pieces apart from each other, so the columns are compared with the rows at the end, on this thread.
 fn column_pass<R: Threads + Sync, G: Gate>(
     rt: &R,
     workers: u8,
     gate: &G,
     answers: &mut [AnswerRow],
+    failed: &FailedRows,
     columns: &mut [ColumnAnswer],
 ) -> bool
     requires workers { 1 ≤ workers }
     requires rows { length answers.old ≡ 208 }
+    requires marks { failed.now.marks ≡ failed_of (map answer_word answers.old) }
     requires columns { length columns.old ≡ 182 }
     ensures same { AreSameAnswers answers.old answers.new }
     ensures answered { AreColumnsAnswered answers.new columns.new result }
 {
-    let Some(failed) = few_failed(answers) else {
+    if !failed.are_few() {
         return false;
-    };
-    column_pieces(rt, workers, gate, answers, &failed, columns);
-    hold_columns(answers, &failed, columns)
+    }
+    column_pieces(rt, workers, gate, answers, &failed.marks, columns);
+    hold_columns(answers, &failed.marks, columns)
 }
 
 // The columns, piece by piece. The closure is proved by its own clauses, so `requires` repeats there what this function

@@ -29,6 +29,6 @@ pub fn read_block_par<R: Threads + Sync, G: Gate>(
     requires numbers { HasNumbers plan.now }
     ensures { IsBlockRead work.old work.new plan.now result }
 {
-    let are_held = answer_block(rt, workers, gate, work);
-    end_reading(work, plan, are_held)
+    let answered = answer_block(rt, workers, gate, work);
+    end_reading(work, plan, &answered)
 }

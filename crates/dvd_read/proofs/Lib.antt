@@ -1,5 +1,6 @@
 -- Why the contracts hold: lemmas on what two passes find of a captured block, and the checks of its frames.
 pub mod RowAnswers
+pub mod NotedRows
 pub mod Positions
 pub mod ColumnAnswers
 pub mod LaneValues

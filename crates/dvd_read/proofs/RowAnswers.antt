@@ -127,10 +127,6 @@ pub flag-counted : (marks : List Bool) (i count : ℕ) → i < length marks → 
 flag-counted marks i count within counted =
     omega (arith, marked-next marks i within, as_number (get_or marks i false))
 
--- after i + 1 flags at most as many are counted
-pub flag-few : (marks : List Bool) (i count : ℕ) → count ≤ i → count + bool_byte (get_or marks i false) ≤ i + 1
-flag-few marks i count few = omega (arith, as_number (get_or marks i false), flag_small (get_or marks i false))
-
 -- the answers to the rows of a captured block are those of the first pass
 pub block_answers : (received : Received) (marks : Marks) (answers : List AnswerRow) → length answers ≡ 208
     → AreAnswers (received_rows received) (marks_rows marks) answers → map answer_word answers ≡ answers_of (received_rows received) (marks_rows marks)

@@ -17,6 +17,7 @@ use Rattle.dvd_decoding.specs.Frames.{frames_cause, main_data}
 use Rattle.dvd_decoding.specs.Reading.{block_cause, block_in, IsReadAs}
 use Rattle.dvd_decoding.specs.declared.cause.Cause.{Cause}
 use Rattle.dvd_read.specs.declared.fixed.Fixed.{Fixed}
+use Rattle.dvd_read.specs.declared.passes.Answered.{Answered}
 use Rattle.dvd_read.specs.Parts.{AreAnswersFrom, AreColumnsFrom, AreColumnsHeld, answer_word}
 
 -- The second pass answered these columns of the rows' answers, where no more rows failed than it corrects. Where that is
@@ -25,10 +26,11 @@ pub record AreColumnsAnswered (answers : List AnswerRow) (columns : List ColumnA
   pub found : marked (failed_of (map answer_word answers)) ≤ 16 → AreColumnsFrom (map answer_word answers) 0 columns
   pub held : IsTrue are_held → AreColumnsHeld answers columns
 
--- Both passes answered the rows and the columns of a captured block.
-pub record AreBothAnswered (work : Work) (are_held : Bool) : Type 0 where
+-- Both passes answered the rows and the columns of a captured block, and these are the rows that failed.
+pub record AreBothAnswered (work : Work) (answered : Answered) : Type 0 where
   pub rows : AreAnswersFrom (rows_of work) (marks_of_work work) 0 (answers_of_work work)
-  pub columns : AreColumnsAnswered (answers_of_work work) (column_answers work.columns) are_held
+  pub columns : AreColumnsAnswered (answers_of_work work) (column_answers work.columns) answered.are_held
+  pub failed : answered.failed.marks ≡ failed_of (map answer_word (answers_of_work work))
 
 -- A captured block was decoded by two passes: its columns are a block, or there is a first cause, and the stage says
 -- which.

@@ -24,7 +24,8 @@ ghost use Rattle.dvd_read.specs.Inner.Standing.{AreCompleted, AreOwnFrom};
 
 use crate::column_group::{ColumnGroup, patches_for};
 use crate::copying::copy_columns;
-use crate::rows::{MOST_FAILED, mark_failed};
+use crate::failed::{FailedRows, MOST_FAILED};
+use crate::passes::Answered;
 use dvd_capture::parts::{AnswerRow, ColumnAnswer};
 use rs_code::Po;
 use rs_decode::{Erasures, Patches, prove_bytes};
@@ -34,23 +35,27 @@ use std::simd::prelude::*;
 /// Answers all columns of the rows' answers, on this thread. Where bytes added in the failed rows make each column a
 /// codeword, they are added in the rows' answers, of which the columns are then copied. Answers whether this is so: the
 /// rows' answers have all bytes of the columns then. If not, the columns are answered one by one. Where more rows
-/// failed than the second pass can correct, nothing is answered, and `begin` isn't called.
+/// failed than the second pass can correct, nothing is answered, and `begin` isn't called. The failed rows are handed
+/// on with the answer, so that nobody gathers them again.
 pub(crate) fn answer_all_columns<F: FnOnce()>(
     answers: &mut [AnswerRow],
     columns: &mut [ColumnAnswer],
     begin: F,
-) -> bool
+) -> Answered
     requires rows { length answers.old ≡ 208 }
     requires columns { length columns.old ≡ 182 }
     requires callable { F.IsAlwaysCallable begin }
     ensures same { AreSameAnswers answers.old answers.new }
-    ensures answered { AreColumnsAnswered answers.new columns.new result }
+    ensures failed { result.failed.marks ≡ failed_of (map answer_word answers.new) }
+    ensures answered { AreColumnsAnswered answers.new columns.new result.are_held }
 {
-    let mut failed = [false; 208];
-    mark_failed(answers, &mut failed);
+    let failed = FailedRows::of(answers);
     // What all columns need of the failed rows' places is computed once.
-    let Some(erasures) = Erasures::shared(&failed, usize::from(MOST_FAILED)) else {
-        return false;
+    let Some(erasures) = Erasures::shared(&failed.marks, usize::from(MOST_FAILED)) else {
+        return Answered {
+            failed,
+            are_held: false,
+        };
     };
     begin();
     let are_completed = complete_rows(&erasures, answers);
@@ -58,9 +63,12 @@ pub(crate) fn answer_all_columns<F: FnOnce()>(
         copy_columns(answers, 0, columns);
         mark_answered(columns);
     } else {
-        answer_columns(&Po::new(), answers, &failed, 0, columns);
+        answer_columns(&Po::new(), answers, &failed.marks, 0, columns);
     }
-    are_completed
+    Answered {
+        failed,
+        are_held: are_completed,
+    }
 }
 
 /// Answers the columns from `start` on, one for each place of a piece of the columns. Several workers have a piece

@@ -5,6 +5,7 @@
 mod column_group; // 32 columns by their values, and the codeword near each
 mod columns; // the second pass: columns of the rows' answers
 mod copying; // columns copied of rows
+mod failed; // the rows that failed in the first pass
 mod fixed; // what was fixed of a block that is read
 mod frames; // the checks of the sixteen data frames
 mod kept; // whether the columns keep the rows that were answered
@@ -19,6 +20,7 @@ mod rows; // the first pass: rows
 
 pub use column_group::{ColumnGroup, patches_for};
 pub use dvd_decoding::Cause;
+pub use failed::FailedRows;
 pub use fixed::Fixed;
 pub use frames::{read_frame_at, sectors};
 pub use passes::two_pass;

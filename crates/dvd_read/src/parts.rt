@@ -3,7 +3,7 @@
 //! for whoever asks which of the sixteen are.
 pub use crate::columns::answer_columns;
 pub use crate::kept::hold_columns;
-pub use crate::passes::{answer_block, end_passes, few_failed};
+pub use crate::passes::{Answered, answer_block, end_passes};
 pub use crate::reading::end_reading;
 pub use crate::rescue::salvage_frame;
 pub use crate::rows::answer_rows;

@@ -4,7 +4,7 @@
 //! A `Work` has received rows, marks, answers of rows and columns, and a stage: at Fetched no answer counts, at Refused
 //! the rows' answers do, and at Fixed the columns are the block as well. In clauses `AreColumnsHeld` says that the
 //! answers of rows have the bytes of columns, and `AreRowsHeld` that they have those of a block.
-ghost use Rattle.std.specs.Prelude.{◌≡◌, ℕ, ◌<◌, ◌≤◌, Bool, List, None, Some, true, false, is_some, length, map, not, position, slice_index_or, IsTrue, MatchOption, IfErr, IfOk, OnErr, OnOk};
+ghost use Rattle.std.specs.Prelude.{◌≡◌, ℕ, ◌<◌, ◌≤◌, Bool, List, None, Some, true, false, is_some, length, map, not, position, slice_index_or, IsTrue, IfErr, IfOk, OnErr, OnOk};
 ghost use Rattle.coding.specs.Distance.{distance};
 ghost use Rattle.coding.specs.Filling.{marked};
 ghost use Rattle.coding.specs.Nearest.{vanishes_at_all};
@@ -25,14 +25,22 @@ ghost use Rattle.dvd_read.specs.Inner.Standing.{AreAnswersBefore, AreAsReceivedB
 use crate::columns::{
     answer_all_columns, are_codewords, first_missing, first_wrong, mark_answered, read_row,
 };
+use crate::failed::FailedRows;
 use crate::fixed::Fixed;
-use crate::rows::{
-    MOST_FAILED, answer_rows, are_few, count_failed, mark_failed, take_data_rows, take_parity_rows,
-};
+use crate::rows::{answer_rows, take_data_rows, take_parity_rows};
 use dvd_capture::parts::{AnswerRow, ColumnAnswer, Marks, Received};
 use dvd_capture::{Stage, Work};
 use dvd_decoding::Cause;
 use rs_code::Pi;
+
+/// What the passes over a block came to, before the test of its rows.
+#[derive(Clone, Copy, Debug, PartialEq, Eq)]
+pub struct Answered {
+    /// The rows that failed in the first pass.
+    pub failed: FailedRows,
+    /// Whether the rows' answers have all bytes of the columns, those of failed rows too. `false` claims nothing.
+    pub are_held: bool,
+}
 
 /// Decodes a captured block: each received row is answered by the codeword near it or fails; each column of the
 /// answers, with the failed rows marked, by the codeword near it; and the block of these columns must have codewords in
@@ -45,17 +53,16 @@ pub fn two_pass(work: &mut Work) -> Result<Fixed, Cause>
 
     ensures { IsDecoded work.old work.new result }
 {
-    let are_held = answer_block(work, || ());
-    end_passes(work, are_held)
+    let answered = answer_block(work, || ());
+    end_passes(work, &answered)
 }
 
-/// Answers the rows and columns of a captured block, on this thread. Answers whether the rows' answers then have all
-/// bytes of the columns, those of failed rows too; `false` claims nothing. `begin_columns` is called once, where the
-/// second pass begins, and not at all where more rows failed than it can correct: what it does is the caller's, so no
-/// clause says when it is called.
+/// Answers the rows and columns of a captured block, on this thread. `begin_columns` is called once, where the second
+/// pass begins, and not at all where more rows failed than it can correct: what it does is the caller's, so no clause
+/// says when it is called.
 /// What was found is set by `end_passes`: the two are apart since several workers answer likewise in dvd_par, and end
 /// by the same call.
-pub fn answer_block<F: FnOnce()>(work: &mut Work, begin_columns: F) -> bool
+pub fn answer_block<F: FnOnce()>(work: &mut Work, begin_columns: F) -> Answered
     requires stage { HasBlock (stage_of work.old) }
     requires callable { F.IsAlwaysCallable begin_columns }
     ensures answered { AreBothAnswered work.new result }
@@ -82,12 +89,13 @@ fn answer_both<F: FnOnce()>(
     answers: &mut [AnswerRow],
     columns: &mut [ColumnAnswer],
     begin_columns: F,
-) -> bool
+) -> Answered
     requires rows { length answers.old ≡ 208 }
     requires columns { length columns.old ≡ 182 }
     requires callable { F.IsAlwaysCallable begin_columns }
     ensures rows { AreAnswersFrom (received_rows received.now) (marks_rows marks.now) 0 answers.new }
-    ensures columns { AreColumnsAnswered answers.new columns.new result }
+    ensures failed { result.failed.marks ≡ failed_of (map answer_word answers.new) }
+    ensures columns { AreColumnsAnswered answers.new columns.new result.are_held }
 {
     let code = Pi::new();
     if !take_rows(&code, received, marks, answers, columns) {
@@ -96,7 +104,10 @@ fn answer_both<F: FnOnce()>(
     begin_columns();
     if are_codewords(answers) {
         mark_answered(columns);
-        return true;
+        return Answered {
+            failed: FailedRows::none(),
+            are_held: true,
+        };
     }
     answer_parity_rows(&code, received, marks, answers);
     answer_all_columns(answers, columns, || ())
@@ -141,36 +152,26 @@ fn answer_parity_rows(code: &Pi, received: &Received, marks: &Marks, answers: &m
     answer_rows(code, received, marks, 192, parity);
 }
 
-/// Which rows failed, where these are no more than the second pass can correct: with more it isn't begun. It is for
-/// several workers, whose pieces of the columns all have these rows as marks.
-pub fn few_failed(answers: &[AnswerRow]) -> Option<[bool; 208]>
-    requires { length answers.now ≡ 208 }
-    ensures { MatchOption result (16 < marked (failed_of (map answer_word answers.now))) (λ failed. failed ≡ failed_of (map answer_word answers.now)) }
-{
-    let mut failed = [false; 208];
-    mark_failed(answers, &mut failed);
-    if are_few(&failed) { Some(failed) } else { None }
-}
-
 /// Sets the stage of a block whose rows and columns are answered, as `two_pass` does: the block of these columns must
 /// have codewords in all its rows. Where the rows' answers have all bytes of the columns, the columns correct no row
 /// that was answered: these rows are codewords and need no test.
 /// It is public for those who answer the pieces of both passes by several workers. All buffers stay. `are_held` may be
 /// `false` of any block: then all rows are tested, which takes more time and gives the same answer.
-pub fn end_passes(work: &mut Work, are_held: bool) -> Result<Fixed, Cause>
+pub fn end_passes(work: &mut Work, answered: &Answered) -> Result<Fixed, Cause>
     requires answers { AreAnswersFrom (rows_of work.old) (marks_of_work work.old) 0 (answers_of_work work.old) }
     requires columns { marked (failed_of (map answer_word (answers_of_work work.old))) ≤ 16
         → AreColumnsFrom (map answer_word (answers_of_work work.old)) 0 (column_answers work.old.columns) }
-    requires held { IsTrue are_held → AreColumnsHeld (answers_of_work work.old) (column_answers work.old.columns) }
+    requires failed { answered.now.failed.marks ≡ failed_of (map answer_word (answers_of_work work.old)) }
+    requires held { IsTrue answered.now.are_held → AreColumnsHeld (answers_of_work work.old) (column_answers work.old.columns) }
 
     ensures decoded { IsDecoded work.old work.new result }
-    ensures held { IsTrue are_held → AreRowsHeld (answers_of_work work.new) (block_of work.new) }
+    ensures held { IsTrue answered.now.are_held → AreRowsHeld (answers_of_work work.new) (block_of work.new) }
 {
-    match find_block(work, are_held) {
+    match find_block(work, answered) {
         Ok(failed_rows) => {
             // The stage first: it ensures that the answers are those of the received rows, by which bytes are counted.
             work.set_stage(Stage::Fixed);
-            let bytes = count_fixed(work, are_held);
+            let bytes = count_fixed(work, answered.are_held);
             Ok(Fixed { bytes, failed_rows })
         }
         Err(cause) => {
@@ -182,11 +183,12 @@ pub fn end_passes(work: &mut Work, are_held: bool) -> Result<Fixed, Cause>
 
 // How many rows failed, or why there is no block. Its clauses are of the captured block, and those of `find_columns` of
 // answers alone, whatever was received.
-fn find_block(work: &Work, are_held: bool) -> Result<u16, Cause>
+fn find_block(work: &Work, answered: &Answered) -> Result<u16, Cause>
     requires answers { AreAnswersFrom (rows_of work.now) (marks_of_work work.now) 0 (answers_of_work work.now) }
     requires columns { marked (failed_of (map answer_word (answers_of_work work.now))) ≤ 16
         → AreColumnsFrom (map answer_word (answers_of_work work.now)) 0 (column_answers work.now.columns) }
-    requires held { IsTrue are_held → AreColumnsHeld (answers_of_work work.now) (column_answers work.now.columns) }
+    requires failed { answered.now.failed.marks ≡ failed_of (map answer_word (answers_of_work work.now)) }
+    requires held { IsTrue answered.now.are_held → AreColumnsHeld (answers_of_work work.now) (column_answers work.now.columns) }
     ensures answers { AreAnswers (rows_of work.now) (marks_of_work work.now) (answers_of_work work.now) }
     ensures refused { IfErr result (λ cause. two_pass_cause (answers_of (rows_of work.now) (marks_of_work work.now)) ≡ Some cause) }
     ensures none { OnErr result (HasNoTwoPass (rows_of work.now) (marks_of_work work.now)) }
@@ -195,34 +197,32 @@ fn find_block(work: &Work, are_held: bool) -> Result<u16, Cause>
     ensures agrees { OnOk result (IsTwoPass (rows_of work.now) (marks_of_work work.now) (block_of work.now)) }
     ensures failed { IfOk result (λ failed. failed ≡ marked (failed_of (answers_of (rows_of work.now) (marks_of_work work.now)))) }
 {
-    find_columns(work.answers.rows(), work.columns.all(), are_held)
+    find_columns(work.answers.rows(), work.columns.all(), answered)
 }
 
 // The same of the answers alone.
-// More than 16 failed rows leave no column an answer, so they are counted first. The columns alone don't make a product
-// codeword: without the test of the rows a block could be answered that was never recorded. The three tests have the
-// order of the causes, since a refusal names the first that applies. The failed rows are marked anew, as nothing but
-// the answers is handed on from the passes.
+// More than 16 failed rows leave no column an answer, so their number is looked at first. The columns alone don't make
+// a product codeword: without the test of the rows a block could be answered that was never recorded. The three tests
+// have the order of the causes, since a refusal names the first that applies.
 fn find_columns(
     answers: &[AnswerRow],
     columns: &[ColumnAnswer],
-    are_held: bool,
+    answered: &Answered,
 ) -> Result<u16, Cause>
     requires rows { length answers.now ≡ 208 }
     requires codewords { AreCodewords answers.now }
     requires columns { length columns.now ≡ 182 }
     requires answered { marked (failed_of (map answer_word answers.now)) ≤ 16 → AreColumnsFrom (map answer_word answers.now) 0 columns.now }
-    requires held { IsTrue are_held → AreColumnsHeld answers.now columns.now }
+    requires failed { answered.now.failed.marks ≡ failed_of (map answer_word answers.now) }
+    requires held { IsTrue answered.now.are_held → AreColumnsHeld answers.now columns.now }
     ensures refused { IfErr result (λ cause. two_pass_cause (map answer_word answers.now) ≡ Some cause) }
     ensures found { OnOk result (two_pass_cause (map answer_word answers.now) ≡ None) }
     ensures block { OnOk result (from_columns (words_of_columns columns.now) ≡ block_found (map answer_word answers.now)) }
     ensures agrees { OnOk result (AgreesWith (map answer_word answers.now) (from_columns (words_of_columns columns.now))) }
     ensures failed { IfOk result (λ failed. failed ≡ marked (failed_of (map answer_word answers.now))) }
 {
-    let mut failed = [false; 208];
-    mark_failed(answers, &mut failed);
-    let failed_rows = count_failed(&failed);
-    if failed_rows > MOST_FAILED {
+    let failed_rows = answered.failed.count();
+    if !answered.failed.are_few() {
         return Err(Cause::Rows {
             failed: failed_rows,
         });
@@ -230,7 +230,7 @@ fn find_columns(
     if let Some(j) = first_missing(columns) {
         return Err(Cause::Column { j });
     }
-    match find_wrong(columns, are_held) {
+    match find_wrong(columns, answered.are_held) {
         Some(i) => Err(Cause::Row { i }),
         None => Ok(failed_rows),
     }

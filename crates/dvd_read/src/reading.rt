@@ -7,7 +7,7 @@ ghost use Rattle.dvd_read.specs.Calls.{AreBothAnswered, IsBlockRead};
 
 use crate::fixed::Fixed;
 use crate::frames::{FrameSource, sectors_of_block};
-use crate::passes::{answer_block, end_passes};
+use crate::passes::{Answered, answer_block, end_passes};
 use dvd_capture::Work;
 use dvd_decoding::Cause;
 use dvd_layout::BlockPlan;
@@ -23,8 +23,8 @@ pub fn read_block(work: &mut Work, plan: &BlockPlan) -> Result<Fixed, Cause>
     requires numbers { HasNumbers plan.now }
     ensures { IsBlockRead work.old work.new plan.now result }
 {
-    let are_held = answer_block(work, || ());
-    end_reading(work, plan, are_held)
+    let answered = answer_block(work, || ());
+    end_reading(work, plan, &answered)
 }
 
 /// Ends the reading of a block whose rows and columns are answered, as `read_block` does. Whether the rows' answers
@@ -32,16 +32,16 @@ pub fn read_block(work: &mut Work, plan: &BlockPlan) -> Result<Fixed, Cause>
 /// block.
 /// It is public for those who answer the pieces of both passes by several workers.
 #[tactic(auto, unfolding(dvd_decoding::specs::Reading::block_cause))]
-pub fn end_reading(work: &mut Work, plan: &BlockPlan, are_held: bool) -> Result<Fixed, Cause>
-    requires answered { AreBothAnswered work.old are_held }
+pub fn end_reading(work: &mut Work, plan: &BlockPlan, answered: &Answered) -> Result<Fixed, Cause>
+    requires answered { AreBothAnswered work.old answered.now }
     requires numbers { HasNumbers plan.now }
     ensures { IsBlockRead work.old work.new plan.now result }
 {
-    match end_passes(work, are_held) {
+    match end_passes(work, answered) {
         Ok(fixed) => {
             // How many bytes differ from those received counts too: where none does, the frames are read from what was
             // received. It sets the sectors to zeros itself where a frame has a cause.
-            sectors_of_block(work, plan, FrameSource::of(fixed.bytes, are_held))?;
+            sectors_of_block(work, plan, FrameSource::of(fixed.bytes, answered.are_held))?;
             Ok(fixed)
         }
         Err(cause) => {

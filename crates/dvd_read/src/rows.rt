@@ -2,15 +2,13 @@
 //! The values of a row are all 0 for a codeword alone (`row_group`). They are found for 32 rows at once, in a vector for
 //! each power of alpha; row `n` of the 32 has lane `n` of each. In clauses `IsAnswer` says that a row is answered so, by
 //! its bytes and its marks.
-ghost use Rattle.std.specs.Prelude.{◌≡◌, ℕ, ◌+◌, ◌<◌, ◌≤◌, ◌↔◌, IsTrue, false, length, map, replicate, slice_index_or, EachIndex};
+ghost use Rattle.std.specs.Prelude.{◌≡◌, ℕ, ◌+◌, ◌<◌, ◌≤◌, IsTrue, false, length, replicate, slice_index_or, EachIndex};
 ghost use Rattle.coding.specs.Field.{alpha, power};
 ghost use Rattle.coding.specs.Words.{value};
-ghost use Rattle.rs_code.specs.Syndromes.{syndromes_of};
 ghost use Rattle.coding.specs.Filling.{marked};
 ghost use Rattle.dvd_capture.specs.Answers.{IsAnswer, marks_line};
 ghost use Rattle.dvd_capture.specs.Parts.{marks_of_row, marks_rows, received_rows};
-ghost use Rattle.coding.specs.TwoPass.{failed_of};
-ghost use Rattle.dvd_read.specs.Parts.{AreAnswersFrom, answer_word};
+ghost use Rattle.dvd_read.specs.Parts.{AreAnswersFrom};
 ghost use Rattle.dvd_read.specs.Inner.Standing.{AreAnswersBefore, AreColumnsOf, AreOwnFrom, AreAsReceivedBefore, AreAsReceivedFrom, IsAsReceived, top_of};
 ghost use Rattle.coding.specs.Product.{line, place};
 
@@ -22,8 +20,6 @@ use rs_code::Pi;
 use rs_lanes::{any_of, are_zeros, row_values_by, transpose};
 use std::simd::prelude::*;
 
-// More failed rows than this leave no column an answer. Each costs one of the sixteen bytes of outer parity.
-pub(crate) const MOST_FAILED: u16 = 16;
 
 /// Answers the rows from `start` on, one for each place of a piece of the answers. Several workers have a piece each;
 /// one alone has all rows. Each answer is overwritten, whatever it was. The code is made once by the caller, since its
@@ -222,36 +218,4 @@ fn take_row(row: &[u8; 182], answer: &mut AnswerRow)
     ensures { IsAsReceived row.now (replicate 182 false) answer.new }
 {
     answer.set(row, Some(UNCHANGED));
-}
-
-/// Notes which rows failed. They are the marks of all columns, so that a flag for each row is needed and not their
-/// number alone. All 208 flags are set anew.
-pub(crate) fn mark_failed(answers: &[AnswerRow], failed: &mut [bool; 208])
-    requires { length answers.now ≡ 208 }
-    ensures { failed.new ≡ failed_of (map answer_word answers.now) }
-{
-    for i in 0..208usize {
-        failed[i] = answers[i].fix.is_none();
-    }
-}
-
-/// Whether no more rows failed than the second pass can correct: sixteen. Callers ask it before they answer columns,
-/// which are all without an answer otherwise.
-pub(crate) fn are_few(failed: &[bool; 208]) -> bool
-    ensures { IsTrue result ↔ marked failed.now ≤ 16 }
-{
-    count_failed(failed) <= MOST_FAILED
-}
-
-/// How many rows failed. 16 bits, as the causes have for numbers of rows. `passes` calls it for the cause that names
-/// the number; other crates can't, since `parts` doesn't hand it on.
-pub fn count_failed(failed: &[bool; 208]) -> u16
-    ensures count { result ≡ marked failed.now }
-    ensures within { result ≤ 208 }
-{
-    let mut count = 0;
-    for flag in failed {
-        count += u16::from(*flag);
-    }
-    count
 }

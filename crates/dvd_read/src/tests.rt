@@ -141,7 +141,7 @@ fn data_block(alloc: Global, edc: Option<u32>, ied: Option<u32>) -> Result<Work,
 // Whether one worker finds that the rows' answers of a received block hold its columns.
 fn are_held(work: &mut Work) -> Option<bool> {
     if work.stage() == Stage::Fetched {
-        Some(answer_block(work, || ()))
+        Some(answer_block(work, || ()).are_held)
     } else {
         None
     }

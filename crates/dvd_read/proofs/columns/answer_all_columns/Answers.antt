@@ -8,7 +8,15 @@ use Rattle.dvd_read.proofs.columns.answer_all_columns.Goals as goal
 
 pub answer_columns-requires-clause-marks : goal.answer_columns-requires-clause-marks
 answer_columns-requires-clause-marks g c =
-    c.mark_failed.ensures ∙ ap failed_of (sym (same-words c.args.answers.now c.complete_rows-are_completed.new.answers c.complete_rows-are_completed.ensures.same))
+    c.of-failed.ensures ∙ ap failed_of (sym (same-words c.args.answers.now c.complete_rows-are_completed.new.answers c.complete_rows-are_completed.ensures.same))
+
+pub returns-then-are_completed-clause-failed : goal.returns-then-are_completed-clause-failed
+returns-then-are_completed-clause-failed g c =
+    c.of-failed.ensures ∙ ap failed_of (sym (same-words c.args.answers.now c.complete_rows-are_completed.new.answers c.complete_rows-are_completed.ensures.same))
+
+pub returns-else-are_completed-clause-failed : goal.returns-else-are_completed-clause-failed
+returns-else-are_completed-clause-failed g c =
+    c.of-failed.ensures ∙ ap failed_of (sym (same-words c.args.answers.now c.complete_rows-are_completed.new.answers c.complete_rows-are_completed.ensures.same))
 
 pub returns-then-are_completed-clause-answered : goal.returns-then-are_completed-clause-answered
 returns-then-are_completed-clause-answered g c =

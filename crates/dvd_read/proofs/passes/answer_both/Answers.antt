@@ -1,5 +1,5 @@
 -- The proof of `answer_both` in src/passes.rt.
-use Rattle.std.proofs.Common.{◌≡◌, ◌∙◌, length, ap, arith}
+use Rattle.std.proofs.Common.{◌≡◌, ◌∙◌, length, sym, ap, arith}
 use Rattle.coding.specs.Filling.{marked}
 use Rattle.dvd_capture.specs.Parts.{marks_rows, received_rows}
 use Rattle.dvd_read.specs.Inner.Standing.{AreOwnFrom}
@@ -18,6 +18,11 @@ pub returns-then-are_codewords-clause-rows : goal.returns-then-are_codewords-cla
 returns-then-are_codewords-clause-rows g c =
     taken-answered (received_rows c.args.received.now) (marks_rows c.args.marks.now) c.take_rows.new.answers c.take_rows.ensures.answers_size
     (c.take_rows.ensures.upper c.if-not-take_rows.false) (c.take_rows.ensures.taken c.if-not-take_rows.false) (c.are_codewords.ensures c.if-are_codewords.true)
+
+pub returns-then-are_codewords-clause-failed : goal.returns-then-are_codewords-clause-failed
+returns-then-are_codewords-clause-failed g c =
+    let taken = c.take_rows.ensures.taken c.if-not-take_rows.false in
+    c.none.ensures ∙ sym (none-failed c.take_rows.new.answers c.take_rows.ensures.answers_size (λ i d below. (taken i d below).answered))
 
 pub returns-then-are_codewords-clause-columns : goal.returns-then-are_codewords-clause-columns
 returns-then-are_codewords-clause-columns g c =

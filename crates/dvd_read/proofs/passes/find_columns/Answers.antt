@@ -8,27 +8,29 @@ use Rattle.coding.specs.Found.{block_found}
 use Rattle.dvd_read.specs.Inner.Found.{words_of_columns}
 use Rattle.dvd_read.specs.Parts.{answer_word}
 use Rattle.dvd_read.proofs.ColumnAnswers.{columns-whole}
+use Rattle.dvd_read.proofs.NotedRows.{many-failed}
 use Rattle.dvd_read.proofs.Outcomes.{rows_cause}
 use Rattle.dvd_read.proofs.FoundColumns.{column_refused, row_refused, block_accepted, rows_all-vanish, words-found}
 use Rattle.dvd_read.proofs.Holding.{held-kept}
 use Rattle.dvd_read.proofs.Standing.{kept-vanish, rows-kept}
 use Rattle.dvd_read.proofs.passes.find_columns.Goals as goal
 
-pub returns-then-failed_rows-gt-MOST_FAILED-clause-refused : goal.returns-then-failed_rows-gt-MOST_FAILED-clause-refused
-returns-then-failed_rows-gt-MOST_FAILED-clause-refused c =
-    rows_cause (map answer_word c.args.answers.now) c.count_failed-failed_rows.result
-    (c.count_failed-failed_rows.ensures.count ∙ ap marked c.mark_failed.ensures) c.if-failed_rows-gt-MOST_FAILED.true
+pub returns-then-not-are_few-clause-refused : goal.returns-then-not-are_few-clause-refused
+returns-then-not-are_few-clause-refused c =
+    let failed = c.args.answered.now.failed.marks in
+    rows_cause (map answer_word c.args.answers.now) c.count-failed_rows.result (c.count-failed_rows.ensures.count ∙ ap marked c.requires.failed)
+    (omega (arith, c.count-failed_rows.ensures.count, many-failed (marked failed) c.are_few.result c.are_few.ensures c.if-not-are_few.true))
 
 pub returns-in-Some-clause-refused : goal.returns-in-Some-clause-refused
 returns-in-Some-clause-refused c =
-    let few : marked (failed_of (map answer_word c.args.answers.now)) ≤ 16 = omega (arith, c.count_failed-failed_rows.ensures.count, ap marked c.mark_failed.ensures) in
+    let few : marked (failed_of (map answer_word c.args.answers.now)) ≤ 16 = omega (arith, c.are_few.ensures.0 c.if-not-are_few.false, ap marked c.requires.failed) in
     column_refused (map answer_word c.args.answers.now) c.args.columns.now c.in-Some.j c.requires.columns
     (columns-whole (map answer_word c.args.answers.now) c.args.columns.now c.requires.columns (c.requires.answered few)) few
     (sym c.in-Some.ensures)
 
 pub find_wrong-requires-clause-right : goal.find_wrong-requires-clause-right
 find_wrong-requires-clause-right c = λ are_held.
-    let few : marked (failed_of (map answer_word c.args.answers.now)) ≤ 16 = omega (arith, c.count_failed-failed_rows.ensures.count, ap marked c.mark_failed.ensures) in
+    let few : marked (failed_of (map answer_word c.args.answers.now)) ≤ 16 = omega (arith, c.are_few.ensures.0 c.if-not-are_few.false, ap marked c.requires.failed) in
     rows_all-vanish (map answer_word c.args.answers.now) c.args.columns.now (length-map c.args.answers.now answer_word ∙ c.requires.rows) c.requires.columns
     (columns-whole (map answer_word c.args.answers.now) c.args.columns.now c.requires.columns (c.requires.answered few)) few
     (sym c.in_default.ensures)
@@ -40,7 +42,7 @@ find_wrong-requires-clause-right c = λ are_held.
 
 pub returns-in-Some-find_wrong-clause-refused : goal.returns-in-Some-find_wrong-clause-refused
 returns-in-Some-find_wrong-clause-refused c =
-    let few : marked (failed_of (map answer_word c.args.answers.now)) ≤ 16 = omega (arith, c.count_failed-failed_rows.ensures.count, ap marked c.mark_failed.ensures) in
+    let few : marked (failed_of (map answer_word c.args.answers.now)) ≤ 16 = omega (arith, c.are_few.ensures.0 c.if-not-are_few.false, ap marked c.requires.failed) in
     row_refused (map answer_word c.args.answers.now) c.args.columns.now c.in-Some-find_wrong.i c.requires.columns
     (columns-whole (map answer_word c.args.answers.now) c.args.columns.now c.requires.columns (c.requires.answered few)) few
     (sym c.in_default.ensures) (sym c.in-Some-find_wrong.ensures)
@@ -48,7 +50,7 @@ returns-in-Some-find_wrong-clause-refused c =
 -- the block is found
 abbrev accepted : (c : goal.In-None) → (two_pass_cause (map answer_word c.args.answers.now) ≡ None) × AgreesWith (map answer_word c.args.answers.now) (block_found (map answer_word c.args.answers.now))
 accepted c =
-    let few : marked (failed_of (map answer_word c.args.answers.now)) ≤ 16 = omega (arith, c.count_failed-failed_rows.ensures.count, ap marked c.mark_failed.ensures) in
+    let few : marked (failed_of (map answer_word c.args.answers.now)) ≤ 16 = omega (arith, c.are_few.ensures.0 c.if-not-are_few.false, ap marked c.requires.failed) in
     block_accepted (map answer_word c.args.answers.now) c.args.columns.now (length-map c.args.answers.now answer_word ∙ c.requires.rows) c.requires.columns
     (columns-whole (map answer_word c.args.answers.now) c.args.columns.now c.requires.columns (c.requires.answered few)) few (sym c.in_default.ensures)
     (sym c.in-None.ensures)
@@ -58,7 +60,7 @@ returns-in-None-clause-found c = (accepted c).0
 
 pub returns-in-None-clause-block : goal.returns-in-None-clause-block
 returns-in-None-clause-block c =
-    let few : marked (failed_of (map answer_word c.args.answers.now)) ≤ 16 = omega (arith, c.count_failed-failed_rows.ensures.count, ap marked c.mark_failed.ensures) in
+    let few : marked (failed_of (map answer_word c.args.answers.now)) ≤ 16 = omega (arith, c.are_few.ensures.0 c.if-not-are_few.false, ap marked c.requires.failed) in
     words-found (map answer_word c.args.answers.now) c.args.columns.now c.requires.columns
     (columns-whole (map answer_word c.args.answers.now) c.args.columns.now c.requires.columns (c.requires.answered few)) (sym c.in_default.ensures)
 
