@@ -1,35 +1,27 @@
 -- The column step, one column after the other.
-use Rattle.std.proofs.Common.{◌≡◌, ◌≢◌, ◌∙◌, ℕ, ◌+◌, ◌<◌, ◌≤◌, Bool, true, false, ◌&&◌, true≢false, cond, List, [], ◌∷◌, ◌++◌, length, map, get_or, set, slice_index, slice_index_or, unwrap_or, inl, inr, refl, sym, ap, arith, Some, None, is_some}
+use Rattle.std.proofs.Common.{◌≡◌, ◌≢◌, ◌∙◌, ℕ, ◌+◌, ◌<◌, Bool, false, ◌&&◌, true≢false, cond, List, [], ◌∷◌, length, map, get_or, set, slice_index, unwrap_or, inl, inr, refl, sym, ap, arith, Some, None, is_some}
 use Rattle.std.specs.List.{list_all, range_with_len}
 use Rattle.std.specs.Option.{option_or}
 use Rattle.std.specs.declared.option.Option.{Option}
 use Rattle.std.proofs.lemmas.Bool.{cases_eq}
-use Rattle.std.proofs.lemmas.List.{get_or-map, get_or-set_other, get_or-set_same, length-map, ext_get_or, map-id}
-use Rattle.std.proofs.lemmas.List.Folds.{list_all-append}
-use Rattle.std.proofs.lemmas.List.FromFn.{fill_by_all, length-map-range_with_len, get_or-map-range_with_len, map-range_with_len_more}
+use Rattle.std.proofs.lemmas.List.{get_or-map, get_or-set_other, get_or-set_same, length-map, ext_get_or}
+use Rattle.std.proofs.lemmas.List.FromFn.{fill_by_all, length-map-range_with_len, get_or-map-range_with_len}
 use Rattle.std.proofs.lemmas.Grind.{same_number_lists}
+use Rattle.coding.specs.Filling.{marked}
 use Rattle.coding.specs.Nearest.{near_of}
 use Rattle.coding.specs.Product.{column, line, place}
+use Rattle.rs_decode.proofs.Counting.{counts-from_near}
+use Rattle.rs_decode.proofs.NearSearch.{none-near_of}
 use Rattle.dvd_block.proofs.Columns.{get_or-column, length-column}
 use Rattle.dvd_capture.specs.Answers.{marks_line}
 use Rattle.coding.specs.TwoPass.{from_columns}
 use Rattle.dvd_capture.proofs.Columns.{from_columns-line, length-from_columns}
-use Rattle.dvd_deep.specs.Rounds.{State, column_marks, column_near, column_step, mark_in, state_in}
-use Rattle.dvd_deep.specs.Inner.Steps.{AreMarksTaken, AreWide, IsColumnPut}
-
--- what becomes of column j
-abbrev pub column_then : List Bool → State → ℕ → List ℕ
-column_then failed state j = unwrap_or (column_near failed state j) (column state.rows j)
+use Rattle.dvd_deep.specs.Rounds.{State, are_answered, column_marks, column_near, column_step, mark_in, state_in}
+use Rattle.dvd_deep.specs.Inner.Steps.{AreMarksTaken, AreStepped, AreTold, AreWide, IsColumnPut, column_then}
 
 -- what becomes of the mark of column j in row i
 abbrev pub mark_then : List Bool → State → ℕ → ℕ → Bool
 mark_then failed state i j = cond (is_some (column_near failed state j)) false (mark_in state.marks i j)
-
--- the columns before column j have had their step, and the others are as they were
-pub record AreStepped (failed : List Bool) (state : State) (rows : List (List ℕ)) (j : ℕ) : Type 0 where
-  pub wide : AreWide rows
-  pub done : (i k : ℕ) → i < 208 → k < j → place rows i k ≡ slice_index (column_then failed state k) i
-  pub left : (i k : ℕ) → i < 208 → j ≤ k → k < 182 → place rows i k ≡ place state.rows i k
 
 -- columns of the same bytes are the same
 pub same-column : (a b : List (List ℕ)) (j : ℕ) → length a ≡ 208 → length b ≡ 208 → ((i : ℕ) → i < 208 → place a i j ≡ place b i j) → column a j ≡ column b j
@@ -45,16 +37,20 @@ pub marks-read : (marks : List (List Bool)) (j : ℕ) (own : List Bool) → leng
 unfolding column_marks
 marks-read marks j own size read = fill_by_all (λ i. mark_in marks i j) own 208 false size read
 
--- a test of one number more
-pub list_all-next : (test : ℕ → Bool) (n : ℕ) → list_all test (range_with_len 0 (n + 1)) ≡ (list_all test (range_with_len 0 n) && test n)
-list_all-next test n =
-    let more : range_with_len 0 (n + 1) ≡ range_with_len 0 n ++ n ∷ [] =
-    sym (map-id (range_with_len 0 (n + 1))) ∙ map-range_with_len_more (λ k. k) 0 n n (omega arith) ∙ ap (λ l. l ++ n ∷ []) (map-id (range_with_len 0 n)) in
-    ap (list_all test) more ∙ list_all-append test (range_with_len 0 n) (n ∷ []) ∙ ap (λ b. list_all test (range_with_len 0 n) && b) (single (test n)) where
-      -- true at the end changes nothing
-      single : (b : Bool) → (b && true) ≡ b
-      single true = refl
-      single false = refl
+-- a column has a mark for each row
+pub length-column_marks : (marks : List (List Bool)) (j : ℕ) → length (column_marks marks j) ≡ 208
+unfolding column_marks
+length-column_marks marks j = length-map-range_with_len (λ i. mark_in marks i j) 0 208
+
+-- with more than sixteen marks no codeword is near a column
+pub many-none : (word : List ℕ) (marks : List Bool) → length word ≡ 208 → length marks ≡ 208 → 16 < marked marks → near_of 208 16 word marks ≡ None
+many-none word marks size marks_size many =
+    none-near_of 208 16 word marks size marks_size (λ near is. absurd (omega (arith, many, counts-from_near 208 16 word near marks is)))
+
+-- to test what numbers give is to test the numbers
+list_all-map : (test : ℕ → Bool) (ns : List ℕ) → list_all (λ is. is) (map test ns) ≡ list_all test ns
+list_all-map test [] = refl
+list_all-map test (n ∷ ns) = ap (λ b. test n && b) (list_all-map test ns)
 
 -- the column that comes next is as it was
 pub next-near : (failed : List Bool) (state : State) (rows : List (List ℕ)) (j : ℕ) → length state.rows ≡ 208 → length rows ≡ 208 → j < 182
@@ -85,10 +81,6 @@ columns-next failed state rows rows_new j height rows_height below put wide part
           put.others i k i_below k_below other ∙ part.left i k i_below (omega arith) k_below;
     }
 
--- whether the columns before column j are answered is said
-abbrev pub AreTold : List Bool → State → List Bool → ℕ → Type 0
-AreTold failed state answered j = (k : ℕ) → k < j → slice_index_or answered k false ≡ is_some (column_near failed state k)
-
 pub told-next : (failed : List Bool) (state : State) (answered : List Bool) (j : ℕ) (found : Bool) → length answered ≡ 182 → j < 182
     → found ≡ is_some (column_near failed state j) → AreTold failed state answered j → AreTold failed state (set answered j found) (j + 1)
 told-next failed state answered j found size below is said = λ k k_below. elim (cases_eq k j) [
@@ -103,6 +95,22 @@ pub marks-left : (failed : List Bool) (state : State) (answered : List Bool) (ma
     → AreMarksTaken answered state.marks marks → (i k : ℕ) → i < 208 → k < 182 → mark_in marks i k ≡ mark_then failed state i k
 marks-left failed state answered marks said taken i k below inside =
     taken i k below inside ∙ ap (λ b. cond b false (mark_in state.marks i k)) (said k inside)
+
+-- no column has had its step
+pub none-put : (failed : List Bool) (rows : List (List ℕ)) (marks : List (List Bool)) → AreWide rows → AreStepped failed (state_in rows marks) rows 0
+none-put failed rows marks wide = record {
+  wide = wide;
+  done = λ i k below inside. absurd (omega arith);
+  left = λ i k below from inside. refl;
+}
+
+-- the flags of all columns say whether every column is answered
+pub told-all : (failed : List Bool) (state : State) (answered : List Bool) → length answered ≡ 182 → AreTold failed state answered 182
+    → list_all (λ is. is) answered ≡ are_answered failed state
+unfolding are_answered
+told-all failed state answered size said =
+    let flags : answered ≡ map (λ j. is_some (column_near failed state j)) (range_with_len 0 182) = fill_by_all (λ j. is_some (column_near failed state j)) answered 182 false size said in
+    ap (list_all (λ is. is)) flags ∙ list_all-map (λ j. is_some (column_near failed state j)) (range_with_len 0 182)
 
 -- all columns
 pub columns-all : (failed : List Bool) (state : State) (rows : List (List ℕ)) (marks : List (List Bool)) → length rows ≡ 208 → length marks ≡ 208

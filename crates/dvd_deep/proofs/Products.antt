@@ -17,8 +17,7 @@ use Rattle.coding.specs.TwoPass.{from_columns}
 use Rattle.dvd_capture.proofs.Columns.{column-from_columns, from_columns-line, length-from_columns}
 use Rattle.dvd_deep.specs.Rounds.{State, after_rounds, are_answered, column_marks, column_near, column_step, deep_block, failed_marks, finishes, first_round, mark_in, round, row_near, row_step, state_in}
 use Rattle.dvd_deep.specs.Laws.{WhatIsFoundIsProduct}
-use Rattle.dvd_deep.proofs.ColumnStep.{column_then}
-use Rattle.dvd_deep.proofs.RowStep.{row_then}
+use Rattle.dvd_deep.specs.Inner.Steps.{column_then, row_then}
 use Rattle.dvd_deep.proofs.Searches.{after_rounds-next, finishes-by}
 
 -- ---- tests of lists

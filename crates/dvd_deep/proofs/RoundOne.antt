@@ -17,8 +17,7 @@ use Rattle.dvd_capture.proofs.Columns.{from_columns-product, length-answer_colum
 use Rattle.dvd_read.proofs.RowAnswers.{get_or-answers_of}
 use Rattle.dvd_deep.specs.Laws.{TwoPassIsRoundOne}
 use Rattle.dvd_deep.specs.Rounds.{State, after_rounds, are_answered, column_marks, column_near, failed_marks, finishes, first_round, round, row_near, row_step, state_in}
-use Rattle.dvd_deep.proofs.ColumnStep.{column_then}
-use Rattle.dvd_deep.proofs.RowStep.{row_then}
+use Rattle.dvd_deep.specs.Inner.Steps.{column_then, row_then}
 use Rattle.dvd_deep.proofs.Products.{length-failed, round-rows, row_step-height, word-then, words_then}
 use Rattle.dvd_deep.proofs.Searches.{after_rounds-next, finishes-by, first-found, nothing-played}
 

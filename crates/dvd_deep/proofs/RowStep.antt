@@ -1,31 +1,15 @@
 -- The row step, one row after the other.
-use Rattle.std.proofs.Common.{◌≡◌, ◌≢◌, ◌∙◌, ℕ, ◌+◌, ◌<◌, ◌≤◌, Bool, true, false, not, cond, List, [], length, map, get_or, set, replicate, unwrap_or, inl, inr, refl, sym, ap, arith, Some, None, is_none, is_some}
+use Rattle.std.proofs.Common.{◌≡◌, ◌≢◌, ◌∙◌, ℕ, ◌+◌, ◌<◌, Bool, true, false, not, cond, List, [], length, map, get_or, set, replicate, unwrap_or, inl, inr, refl, sym, ap, arith, Some, None, is_none, is_some}
 use Rattle.std.specs.List.{range_with_len}
 use Rattle.std.specs.declared.option.Option.{Option}
-use Rattle.std.proofs.lemmas.Bool.{cases_eq}
-use Rattle.std.proofs.lemmas.List.{get_or-set_same, get_or-set_other}
+use Rattle.std.proofs.lemmas.Bool.{cases_eq, cases_lt}
+use Rattle.std.proofs.lemmas.List.{get_or-replicate, get_or-set_same, get_or-set_other, get_or_past, length-replicate}
 use Rattle.std.proofs.lemmas.List.FromFn.{fill_by_all}
 use Rattle.coding.specs.Nearest.{near_of}
 use Rattle.coding.specs.Product.{line}
 use Rattle.dvd_capture.specs.Answers.{marks_line}
 use Rattle.dvd_deep.specs.Rounds.{State, failed_marks, row_near, row_step, state_in}
-
--- what becomes of row i
-abbrev pub row_then : State → ℕ → List ℕ
-row_then state i = unwrap_or (row_near state i) (line state.rows i)
-
--- what becomes of the marks of row i
-abbrev pub marks_then : State → ℕ → List Bool
-marks_then state i = cond (is_some (row_near state i)) (replicate 182 false) (marks_line state.marks i)
-
--- the rows before row i have had their step, and the others are as they were
-pub record IsStepped (state : State) (rows : List (List ℕ)) (marks : List (List Bool)) (failed : List Bool) (i : ℕ) : Type 0 where
-  pub rows_done : (k : ℕ) → k < i → line rows k ≡ row_then state k
-  pub marks_done : (k : ℕ) → k < i → marks_line marks k ≡ marks_then state k
-  pub failed_done : (k : ℕ) → k < i → get_or failed k false ≡ is_none (row_near state k)
-  pub wide : (k : ℕ) → k < i → length (line rows k) ≡ 182
-  pub rows_left : (k : ℕ) → i ≤ k → line rows k ≡ line state.rows k
-  pub marks_left : (k : ℕ) → i ≤ k → marks_line marks k ≡ marks_line state.marks k
+use Rattle.dvd_deep.specs.Inner.Steps.{IsStepped, marks_then, row_then}
 
 -- a row fails where it isn't answered
 pub not-is_some : {X : Type 0} (found : Option X) → not (is_some found) ≡ is_none found
@@ -45,11 +29,23 @@ taken-there : (answered : Bool) (marks marks_new : List (List Bool)) (i k : ℕ)
 taken-there false marks marks_new i k other made = ap (λ l. marks_line l k) made
 taken-there true marks marks_new i k other made = ap (λ l. marks_line l k) made ∙ get_or-set_other marks i k (replicate 182 false) [] other
 
+-- a row that isn't answered is noted
+noted-here : (answered : Bool) (failed failed_new : List Bool) (i : ℕ) → i < length failed → get_or failed i false ≡ false
+    → failed_new ≡ cond answered failed (set failed i true) → get_or failed_new i false ≡ not answered
+noted-here false failed failed_new i within clear made = ap (λ l. get_or l i false) made ∙ get_or-set_same failed i true false within
+noted-here true failed failed_new i within clear made = ap (λ l. get_or l i false) made ∙ clear
+
+-- the flags of the other rows stay
+noted-there : (answered : Bool) (failed failed_new : List Bool) (i k : ℕ) → k ≢ i → failed_new ≡ cond answered failed (set failed i true)
+    → get_or failed_new k false ≡ get_or failed k false
+noted-there false failed failed_new i k other made = ap (λ l. get_or l k false) made ∙ get_or-set_other failed i k true false other
+noted-there true failed failed_new i k other made = ap (λ l. get_or l k false) made
+
 -- one row more
 pub stepped-next : (state : State) (rows rows_new : List (List ℕ)) (marks marks_new : List (List Bool)) (failed failed_new : List Bool) (i : ℕ) (answered : Bool)
     → i < length rows → i < length marks → i < length failed
     → answered ≡ is_some (row_near (state_in rows marks) i) → rows_new ≡ set rows i (row_then (state_in rows marks) i) → length (line rows_new i) ≡ 182
-    → marks_new ≡ cond answered (set marks i (replicate 182 false)) marks → failed_new ≡ set failed i (not answered)
+    → marks_new ≡ cond answered (set marks i (replicate 182 false)) marks → failed_new ≡ cond answered failed (set failed i true)
     → IsStepped state rows marks failed i → IsStepped state rows_new marks_new failed_new (i + 1)
 stepped-next state rows rows_new marks marks_new failed failed_new i answered within marks_within failed_within is rows_are wide_here marks_are failed_are part =
     let same : row_near (state_in rows marks) i ≡ row_near state i =
@@ -72,9 +68,9 @@ stepped-next state rows rows_new marks marks_new failed failed_new i answered wi
       ];
       failed_done = λ k below. elim (cases_eq k i) [
         | inl k_is ↦
-            ap (λ n. get_or failed_new n false) k_is ∙ ap (λ l. get_or l i false) failed_are ∙ get_or-set_same failed i (not answered) false failed_within
+            ap (λ n. get_or failed_new n false) k_is ∙ noted-here answered failed failed_new i failed_within (part.failed_left i (omega arith)) failed_are
             ∙ ap not (is ∙ ap is_some same) ∙ not-is_some (row_near state i) ∙ ap (λ n. is_none (row_near state n)) (sym k_is)
-        | inr other ↦ ap (λ l. get_or l k false) failed_are ∙ get_or-set_other failed i k (not answered) false other ∙ part.failed_done k (omega arith)
+        | inr other ↦ noted-there answered failed failed_new i k other failed_are ∙ part.failed_done k (omega arith)
       ];
       wide = λ k below. elim (cases_eq k i) [
         | inl k_is ↦ ap (λ n. length (line rows_new n)) k_is ∙ wide_here
@@ -86,7 +82,29 @@ stepped-next state rows rows_new marks marks_new failed failed_new i answered wi
       marks_left = λ k from.
           let other : k ≢ i = λ equal. omega (arith, equal) in
           taken-there answered marks marks_new i k other marks_are ∙ part.marks_left k (omega arith);
+      failed_left = λ k from.
+          let other : k ≢ i = λ equal. omega (arith, equal) in
+          noted-there answered failed failed_new i k other failed_are ∙ part.failed_left k (omega arith);
     }
+
+-- where nothing is set no flag is
+never : (k : ℕ) → get_or (replicate 208 false) k false ≡ false
+never k = elim (cases_lt k 208) [
+  | inl below ↦ get_or-replicate 208 k false false below
+  | inr past ↦ get_or_past (replicate 208 false) k false (omega (arith, length-replicate 208 false))
+]
+
+-- no row has had its step
+pub none-stepped : (rows : List (List ℕ)) (marks : List (List Bool)) (failed : List Bool) → failed ≡ replicate 208 false → IsStepped (state_in rows marks) rows marks failed 0
+none-stepped rows marks failed clear = record {
+  rows_done = λ k below. absurd (omega arith);
+  marks_done = λ k below. absurd (omega arith);
+  failed_done = λ k below. absurd (omega arith);
+  wide = λ k below. absurd (omega arith);
+  rows_left = λ k from. refl;
+  marks_left = λ k from. refl;
+  failed_left = λ k from. ap (λ l. get_or l k false) clear ∙ never k;
+}
 
 -- all rows
 pub stepped-all : (state : State) (rows : List (List ℕ)) (marks : List (List Bool)) (failed : List Bool) → length rows ≡ 208 → length marks ≡ 208 → length failed ≡ 208

@@ -17,8 +17,8 @@ use Rattle.dvd_capture.proofs.Columns.{from_columns-line, from_columns-product}
 use Rattle.dvd_deep.specs.Laws.{TrueBytesGiveTheBlock}
 use Rattle.dvd_deep.specs.Rounds.{State, after_rounds, are_answered, column_marks, column_near, column_step, failed_marks, finishes, mark_in, round, row_near, row_step, state_in}
 use Rattle.dvd_deep.specs.Inner.Steps.{AreWide}
-use Rattle.dvd_deep.proofs.ColumnStep.{column_then, mark_then}
-use Rattle.dvd_deep.proofs.RowStep.{marks_then}
+use Rattle.dvd_deep.specs.Inner.Steps.{column_then, marks_then}
+use Rattle.dvd_deep.proofs.ColumnStep.{mark_then}
 use Rattle.dvd_deep.proofs.RoundOne.{row_step-line}
 use Rattle.dvd_deep.proofs.Products.{by_tries, finished-answered, last_round, length-column_marks, length-failed, round-rows, row_step-height, tested-at, word-then, words_then}
 

@@ -3,10 +3,13 @@
 //! and errors that one round corrects.
 #![tactic(auto)]
 
+mod column_step; // the column step of a round
 mod deep; // a search for a block by rounds
 pub mod laws; // what holds of every block that is read so
-mod rounds; // one round: rows, columns, and the test of the rows
+mod rounds; // the rounds of a search, and the test of the rows
+mod row_step; // the row step of a round
 mod sectors; // the checks of a found block's frames, and their Main Data
+mod tries; // what a column is tried with
 
 pub use deep::Deep;
 

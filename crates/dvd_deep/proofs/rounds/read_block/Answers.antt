@@ -5,7 +5,7 @@ use Rattle.dvd_capture.specs.Answers.{marks_line}
 use Rattle.dvd_capture.specs.Parts.{marks_of_row}
 use Rattle.dvd_capture.specs.Works.{marks_of_work, rows_of}
 use Rattle.dvd_capture.proofs.WorkParts.{marks-height, rows-height}
-use Rattle.dvd_deep.specs.Inner.Buffers.{marks_of_rows}
+use Rattle.dvd_capture.specs.Parts.{marks_of_rows}
 use Rattle.dvd_deep.proofs.RowStep.{copied-next}
 use Rattle.dvd_deep.specs.Rounds.{state_in}
 use Rattle.dvd_deep.proofs.rounds.read_block.Goals as goal

@@ -3,7 +3,7 @@ use Rattle.std.proofs.Common.{◌≡◌, ℕ, ◌<◌, length}
 use Rattle.coding.specs.Product.{line}
 use Rattle.dvd_capture.specs.Answers.{marks_line}
 use Rattle.dvd_capture.specs.Works.{marks_of_work, rows_of}
-use Rattle.dvd_deep.specs.Inner.Buffers.{marks_of_rows}
+use Rattle.dvd_capture.specs.Parts.{marks_of_rows}
 use Rattle.dvd_deep.proofs.rounds.read_block.Given as goal
 
 abbrev pub invariant-loop-i : goal.invariant-loop-i

@@ -1,7 +1,0 @@
--- What each iteration of the loop in `take_marks` keeps.
-use Rattle.dvd_deep.specs.Inner.Buffers.{marks_of_rows}
-use Rattle.dvd_deep.proofs.MarksTaken.{AreTakenTo}
-use Rattle.dvd_deep.proofs.rounds.take_marks.Given as goal
-
-abbrev pub invariant-loop-i : goal.invariant-loop-i
-invariant-loop-i l = AreTakenTo l.answered (marks_of_rows l.fn.marks) (marks_of_rows l.marks) l.i
