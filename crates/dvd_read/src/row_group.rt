@@ -56,12 +56,7 @@ impl<'a> RowGroup<'a> {
     /// Rows that have these values at alpha^0 to alpha^9. Those that will be answered have the lanes from `first` on and
     /// these marks: by them it is known whether it pays to propose for all rows at once. The code is made once by the
     /// caller, since its generator polynomial is computed.
-    pub fn new(
-        code: &'a Pi,
-        values: &[u8x32; 10],
-        first: usize,
-        marks: &[RowMarks],
-    ) -> RowGroup<'a>
+    pub fn new(code: &'a Pi, values: &[u8x32; 10], first: usize, marks: &[RowMarks]) -> RowGroup<'a>
         requires { first + length marks.now ≤ 32 }
         ensures { (k n : ℕ) → k < 10 → n < 32 → place result.values k n ≡ place values.now k n }
     {

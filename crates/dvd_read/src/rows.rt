@@ -20,7 +20,6 @@ use rs_code::Pi;
 use rs_lanes::{any_of, are_zeros, row_values_by, transpose};
 use std::simd::prelude::*;
 
-
 /// Answers the rows from `start` on, one for each place of a piece of the answers. Several workers have a piece each;
 /// one alone has all rows. Each answer is overwritten, whatever it was. The code is made once by the caller, since its
 /// generator polynomial is computed.

@@ -1,5 +1,5 @@
 -- The proof of `answer_group` in src/columns.rt.
-use Rattle.std.proofs.Common.{◌≡◌, ◌∙◌, ◌+◌, ◌-◌, ◌<◌, ℕ, List, sym, ap, arith, get_or}
+use Rattle.std.proofs.Common.{◌∙◌, ◌+◌, ℕ, List, ap, arith}
 use Rattle.coding.specs.Nearest.{near_of}
 use Rattle.coding.specs.Product.{column}
 use Rattle.dvd_read.specs.Parts.{answer_bytes}

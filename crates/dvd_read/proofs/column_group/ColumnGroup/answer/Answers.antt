@@ -1,7 +1,6 @@
 -- The proof of `answer` in src/column_group.rt.
 use Rattle.std.proofs.Common.{◌≡◌, ◌∙◌, ℕ, Bool, List, Some, length, is_some, unwrap_or, sym, ap, subst, arith}
 use Rattle.std.specs.Prelude.{IfOk, OnErr, Result, Ok, Err, is_ok}
-use Rattle.std.specs.declared.option.Option.{Option}
 use Rattle.std.proofs.lemmas.List.Elements.{All-from_get_or}
 use Rattle.coding.specs.Nearest.{near_of}
 use Rattle.coding.specs.Words.{IsByte, IsNear}

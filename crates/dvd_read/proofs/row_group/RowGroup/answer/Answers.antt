@@ -1,9 +1,8 @@
 -- The proof of `answer` in src/row_group.rt.
-use Rattle.std.proofs.Common.{◌≡◌, ◌∙◌, Bool, List, Some, false, replicate, refl, sym, subst, arith}
+use Rattle.std.proofs.Common.{◌∙◌, Bool, List, Some, false, replicate, refl, sym, subst, arith}
 use Rattle.std.proofs.lemmas.List.Elements.{All-from_get_or}
 use Rattle.coding.specs.Words.{IsByte}
 use Rattle.dvd_capture.specs.Answers.{IsFix}
-use Rattle.dvd_capture.specs.Parts.{marks_of_row}
 use Rattle.rs_decode.proofs.NearSearch.{near_of-some}
 use Rattle.dvd_read.proofs.Standing.{own-row}
 use Rattle.dvd_read.proofs.row_group.RowGroup.answer.Goals as goal
@@ -23,7 +22,8 @@ returns-then-self-n-eq0 c =
 
 pub returns-in-Some : goal.returns-in-Some
 returns-in-Some c =
-    subst (λ (marks : List Bool). IsFix c.args.row.now marks c.believe.new.row c.in-Some.fix) (sym (c.is_clear.ensures.0 c.if-not-is_clear.false))
-    (near_of-some 182 10 c.args.row.now c.believe.new.row (replicate 182 false) (omega arith) c.in-Some.ensures.near,
-    c.in-Some.ensures.errors,
-    c.in-Some.ensures.erased)
+    subst (λ (marks : List Bool). IsFix c.args.row.now marks c.believe.new.row c.in-Some.fix) (sym (c.is_clear.ensures.0 c.if-not-is_clear.false)) (
+      near_of-some 182 10 c.args.row.now c.believe.new.row (replicate 182 false) (omega arith) c.in-Some.ensures.near,
+      c.in-Some.ensures.errors,
+      c.in-Some.ensures.erased,
+    )

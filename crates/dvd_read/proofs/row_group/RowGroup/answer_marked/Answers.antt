@@ -1,5 +1,5 @@
 -- The proof of `answer_marked` in src/row_group.rt.
-use Rattle.std.proofs.Common.{◌≡◌, ◌<◌, Bool, List, subst}
+use Rattle.std.proofs.Common.{◌<◌, Bool, List, subst}
 use Rattle.coding.specs.Filling.{marked}
 use Rattle.dvd_capture.specs.Parts.{marks_of_row}
 use Rattle.dvd_capture.proofs.MarkLists.{length-marks_of}
