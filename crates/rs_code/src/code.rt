@@ -75,10 +75,9 @@ impl<const N: usize, const R: usize> Code<N, R> {
         evaluation::is_zero(&self.remainder(word))
     }
 
-    /// The remainder of `word` by the generator polynomial: `R` bytes that have the word's values at alpha^0 to
-    /// alpha^(R-1). They are zeros where the word is a codeword. Also ensures that the elements of `word` are bytes.
-    /// It is public for decoders that find these values of the remainder by vectors.
-    pub fn remainder(&self, word: &[u8; N]) -> [u8; R]
+    // The remainder of `word` by the generator polynomial: `R` bytes that have the word's values at alpha^0 to
+    // alpha^(R-1). They are zeros where the word is a codeword. Also ensures that the elements of `word` are bytes.
+    fn remainder(&self, word: &[u8; N]) -> [u8; R]
         ensures values { (k : ℕ) → k < R → value result (power alpha k) ≡ value word.now (power alpha k) }
         ensures bytes { All IsByte result }
         ensures word_bytes { All IsByte word.now }

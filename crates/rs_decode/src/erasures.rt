@@ -7,7 +7,7 @@ ghost use Rattle.rs_code.specs.Syndromes.{syndromes_of};
 ghost use Rattle.coding.specs.Filling.{IsFilling, HasNoFilling, marked};
 
 use crate::places::{Erasures, patch};
-use crate::syndromes::{first_lanes, power_sums, syndromes};
+use crate::power_sums::{first_lanes, power_sums};
 use arrayvec::ArrayVec;
 use rs_code::Code;
 use thiserror::Error;
@@ -32,7 +32,7 @@ pub fn fill<const N: usize, const R: usize>(
     let Some(erasures) = Erasures::new(marks, R) else {
         return Err(NoCodeword);
     };
-    fill_from(code, &erasures, syndromes(code, word), word)?;
+    fill_from(code, &erasures, code.syndromes(word), word)?;
     Ok(erasures.points.len() as u16)
 }
 

@@ -11,8 +11,8 @@ ghost use Rattle.coding.specs.Filling.{marked};
 use crate::erasures::{NoCodeword, fill_from};
 use crate::locating::{count_errors, mark_zeros, prove_bytes, sums_without};
 use crate::places::Erasures;
+use crate::power_sums::are_zeros;
 use crate::register::shortest;
-use crate::syndromes::{are_zeros, syndromes};
 use arrayvec::ArrayVec;
 use rs_code::Code;
 use thiserror::Error;
@@ -49,7 +49,7 @@ pub fn decode<const N: usize, const R: usize>(
     let Some(erasures) = Erasures::new(marks, R) else {
         return Err(Beyond);
     };
-    decode_from(code, &erasures, syndromes(code, word), word)
+    decode_from(code, &erasures, code.syndromes(word), word)
 }
 
 /// Sets `word` as `decode` does, by its marked places and its syndromes, which are at hand: many words may share the

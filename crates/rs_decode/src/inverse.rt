@@ -13,7 +13,7 @@ ghost use Rattle.rs_lanes.specs.Inner.Lanes.{HoldsLanes};
 ghost use Rattle.rs_decode.specs.Inner.Sums.{AreOnly};
 
 use crate::forney::{derivative, times_distance};
-use crate::syndromes::first_lanes;
+use crate::power_sums::first_lanes;
 use arrayvec::ArrayVec;
 use gf_field::inv;
 use rs_lanes::{mul_scalar, multiple};

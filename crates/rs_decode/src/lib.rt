@@ -11,7 +11,7 @@
 //! - [`register`]: `shortest` finds the shortest linear feedback register that generates a list.
 //! - `combining`: sixteen bytes added to others at once, lists in the first lanes of vectors, and lanes moved up.
 //! - `sums`: power sums with points taken out.
-//! - `syndromes`: the syndromes of a word, and power sums of bytes at points, sixteen at once.
+//! - `power_sums`: power sums of bytes at points, sixteen at once.
 //! - `values`: the values of a polynomial at the powers of alpha.
 //! - [`laws`]: what holds of every word, as contracts alone.
 #![tactic(auto)]
@@ -25,9 +25,9 @@ pub mod laws;
 mod locating;
 mod patches;
 mod places;
+mod power_sums;
 pub mod register;
 mod sums;
-mod syndromes;
 #[cfg(test)]
 mod tests;
 mod values;

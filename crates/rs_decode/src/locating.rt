@@ -8,8 +8,8 @@ ghost use Rattle.rs_decode.specs.Errors.{error_count};
 ghost use Rattle.rs_decode.specs.Inner.Locator.{at_points, distances, with_zeros};
 ghost use Rattle.rs_decode.specs.Inner.Sums.{AreSums};
 
+use crate::power_sums::first_lanes;
 use crate::sums::without_points;
-use crate::syndromes::first_lanes;
 use crate::values::values_at_powers;
 use arrayvec::ArrayVec;
 use gf_field::mul;

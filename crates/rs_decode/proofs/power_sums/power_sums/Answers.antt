@@ -1,11 +1,11 @@
--- The proof of `power_sums` in src/syndromes.rt.
+-- The proof of `power_sums` in src/power_sums.rt.
 use Rattle.std.proofs.Common.{◌≡◌, ◌-◌, ◌∙◌, suc, drop, get_or, refl, sym, ap, arith}
 use Rattle.std.proofs.lemmas.Simd.{get_or-replicate}
 use Rattle.coding.specs.Field.{plus, product}
 use Rattle.rs_code.specs.Inner.PowerSums.{power_sum}
 use Rattle.rs_lanes.proofs.LaneLemmas.{HoldsLanes-zip2}
 use Rattle.rs_decode.proofs.LaneSums.{power_sum-end, power_sum-lane}
-use Rattle.rs_decode.proofs.syndromes.power_sums.Goals as goal
+use Rattle.rs_decode.proofs.power_sums.power_sums.Goals as goal
 
 pub loop-i-init : goal.loop-i-init
 loop-i-init c = record {

@@ -1,6 +1,6 @@
 -- What each iteration of the loop in `are_zeros` keeps.
 use Rattle.std.proofs.Common.{◌≡◌, ℕ, ◌<◌, get_or}
-use Rattle.rs_decode.proofs.syndromes.are_zeros.Given as goal
+use Rattle.rs_decode.proofs.power_sums.are_zeros.Given as goal
 
 -- the numbers so far are 0
 abbrev pub invariant-loop-number : goal.invariant-loop-number
