@@ -15,7 +15,6 @@ ghost use Rattle.dvd_deep.specs.Rounds.{after_rounds, finishes, first_round, rou
 use crate::column_step::answer_columns;
 use crate::row_step::answer_rows;
 use dvd_capture::{RowMarks, Work};
-use dvd_read::FailedRows;
 use rs_lanes::{any_of, are_zeros, row_values};
 
 /// The rows of a block: 37,856 bytes.
@@ -60,8 +59,7 @@ fn play_round(rows: &mut Rows, marks: &mut Marks) -> bool
     ensures state { buffered_state rows.new marks.new ≡ round (buffered_state rows.old marks.old) }
     ensures finishes { result ≡ finishes (buffered_state rows.old marks.old) }
 {
-    let mut failed = FailedRows::none();
-    answer_rows(rows, marks, &mut failed);
+    let failed = answer_rows(rows, marks);
     let answered = answer_columns(rows, marks, &failed.marks);
     // With a column that isn't answered no test of the rows is needed. With all answered, columns are codewords.
     answered && are_codewords(rows)

@@ -16,19 +16,20 @@ use dvd_read::{FailedRows, RowGroup};
 use rs_code::Pi;
 use rs_lanes::row_values;
 
-/// Answers all rows. Also notes which rows fail, which the column step needs.
-pub(crate) fn answer_rows(rows: &mut Rows, marks: &mut Marks, failed: &mut FailedRows)
-    requires none { failed.old.marks ≡ replicate 208 false }
+/// Answers all rows. Returns which of them fail, which the column step needs.
+pub(crate) fn answer_rows(rows: &mut Rows, marks: &mut Marks) -> FailedRows
     ensures state { buffered_state rows.new marks.new ≡ row_step (buffered_state rows.old marks.old) }
-    ensures failed { failed.new.marks ≡ failed_marks (buffered_state rows.old marks.old) }
+    ensures failed { result.marks ≡ failed_marks (buffered_state rows.old marks.old) }
     ensures wide { AreWide rows.new }
 {
     let code = Pi::new();
+    let mut failed = FailedRows::none();
     for group in 0..6usize {
-        answer_row_group(&code, 32 * group, 32 * group + 32, rows, marks, failed);
+        answer_row_group(&code, 32 * group, 32 * group + 32, rows, marks, &mut failed);
     }
     // 208 is no multiple of 32: sixteen rows are left.
-    answer_row_group(&code, 192, 208, rows, marks, failed);
+    answer_row_group(&code, 192, 208, rows, marks, &mut failed);
+    failed
 }
 
 // Answers the rows from `start` on that are before `end`, at most 32: dvd_read finds the codewords near them by their

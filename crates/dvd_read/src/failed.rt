@@ -1,5 +1,6 @@
-//! The rows of a block that failed in the first pass. They are the marks of all columns in the second, and a refusal
-//! or what was fixed has their number. So they are gathered and counted once a block, and handed on.
+//! The rows of a block that failed: no codeword is near them. All columns have them as marks, a refusal says how many
+//! they are, and so does what was fixed. So they are gathered and counted once for each block, and handed on; dvd_deep
+//! notes those of each of its rounds.
 ghost use Rattle.std.specs.Prelude.{◌≡◌, ◌≤◌, ◌<◌, ◌↔◌, IsTrue, false, true, length, map, replicate, slice_set};
 ghost use Rattle.coding.specs.Filling.{marked};
 ghost use Rattle.coding.specs.TwoPass.{failed_of};
@@ -67,8 +68,8 @@ impl FailedRows {
         self.count
     }
 
-    /// Whether no more rows failed than the second pass can correct: sixteen. It is asked before columns are answered,
-    /// which are all without an answer otherwise.
+    /// Whether no more rows failed than columns can correct: sixteen. It is asked before columns are answered, which are
+    /// all without an answer otherwise.
     pub fn are_few(&self) -> bool
         ensures { IsTrue result ↔ marked self.now.marks ≤ 16 }
     {

@@ -9,7 +9,7 @@ use Rattle.dvd_deep.proofs.RowStep.{none-stepped, stepped-all}
 use Rattle.dvd_deep.proofs.row_step.answer_rows.Goals as goal
 
 pub loop-group-init : goal.loop-group-init
-loop-group-init c = none-stepped c.args.rows.now (marks_of_rows c.args.marks.now) c.args.failed.now.marks c.requires.none
+loop-group-init c = none-stepped c.args.rows.now (marks_of_rows c.args.marks.now) c.none-failed.result.marks c.none-failed.ensures
 
 pub loop-group-preserved : goal.loop-group-preserved
 loop-group-preserved c =
