@@ -10,7 +10,6 @@ ghost use Rattle.std.specs.Prelude.{◌≡◌, ℕ, ◌↔◌, ◌+◌, ◌*◌,
 ghost use Rattle.std.specs.List.{flat_map};
 ghost use Rattle.std.specs.declared.option.Option.TheVariants.{None};
 ghost use Rattle.coding.specs.Product.{line};
-ghost use Rattle.coding.specs.Filling.{marked};
 ghost use Rattle.coding.specs.Recording.{record_at};
 ghost use Rattle.dvd_capture.specs.Inner.Listing.{IsFound};
 ghost use Rattle.dvd_capture.specs.Captured.{marks_in, record_size};
@@ -195,14 +194,6 @@ impl Marks {
         ensures { IsTrue result ↔ (marks_line (marks_rows self.now) i ≡ replicate 182 false) }
     {
         self.rows[i].is_clear()
-    }
-
-    /// How many places of row `i` are marked. A decoder asks it of rows that may have more than 10, which are lost.
-    pub fn count(&self, i: usize) -> u32
-        requires { i < 208 }
-        ensures { result ≡ marked (marks_line (marks_rows self.now) i) }
-    {
-        self.rows[i].count()
     }
 
     /// The first place of row `i` from `from` on whose mark is this, or 182. Runs of the listed form are found by it.

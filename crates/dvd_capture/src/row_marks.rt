@@ -42,7 +42,7 @@ impl RowMarks {
         has_no_mark(&self.bits)
     }
 
-    /// How many places are marked.
+    /// How many places are marked. A decoder asks it of rows that may have more than ten, which are lost.
     pub fn count(&self) -> u32
         ensures { result ≡ marked (marks_of_row self.now) }
     {
