@@ -11,7 +11,7 @@ use Rattle.dvd_block.proofs.Linear.{rows_vanish}
 use Rattle.dvd_capture.specs.Answers.{IsAnswer, marks_line}
 use Rattle.dvd_capture.specs.declared.parts.AnswerRow.{AnswerRow}
 use Rattle.dvd_capture.specs.declared.parts.ColumnAnswer.{ColumnAnswer}
-use Rattle.dvd_read.specs.Inner.Standing.{AreAnswersBefore, AreColumnsOf, AreOwnFrom, AreAsReceivedBefore, AreAsReceivedFrom, IsAsReceived}
+use Rattle.dvd_read.specs.Inner.Standing.{AreAnswersBefore, AreColumnsOf, AreOwnFrom, AreAsReceivedBefore}
 use Rattle.dvd_read.specs.Parts.{AreAnswersFrom, answer_word, answer_bytes}
 use Rattle.dvd_read.proofs.Codewords.{near_of-codeword}
 use Rattle.dvd_read.proofs.RowAnswers.{answer_word-is, blank_answer}
@@ -100,14 +100,12 @@ written-after P a old piece new within is before after i d below = by (cases_lt 
       subst (P i) (sym (read ∙ get_or-append_right (take a old) piece a i d (length-take-le a old within) past))
       (subst (λ (n : ℕ). P n (get_or piece (i - a) d)) here (after (i - a) d (omega arith)))
 
--- rows of two parts that are taken are taken from the first on
-pub both-taken : (received : List (List ℕ)) (marks : List (List Bool)) (old upper lower : List AnswerRow) → length upper ≡ 192 → length lower ≡ 16
-    → ((i : ℕ) (d : AnswerRow) → i < 192 → get_or upper i d ≡ get_or old i d) → AreAsReceivedBefore received marks old 192 → AreAsReceivedFrom received marks 192 lower
-    → AreAsReceivedBefore received marks (upper ++ lower) 208
-both-taken received marks old upper lower upper_size lower_size same above below i d inside = by (cases_lt i 192) where
-  by : (i < 192) ⊎ (192 ≤ i) → IsAsReceived (line received i) (marks_line marks i) (get_or (upper ++ lower) i d)
-  by (inl under) =
-      subst (IsAsReceived (line received i) (marks_line marks i)) (sym (get_or_append_left upper lower d i (omega arith) ∙ same i d under)) (above i d under)
-  by (inr past) =
-      subst (IsAsReceived (line received i) (marks_line marks i)) (sym (get_or-append_right upper lower 192 i d upper_size past))
-      (subst (λ (n : ℕ). IsAsReceived (line received n) (marks_line marks n) (get_or lower (i - 192) d)) {x = 192 + (i - 192)} (omega arith) (below.are (i - 192) d (omega arith)))
+-- answers written after those of the rows before are, with these, the answers of all rows
+pub all-answered : (received : List (List ℕ)) (marks : List (List Bool)) (a : ℕ) (old piece new : List AnswerRow) → a ≤ length old → take (a + length piece) new ≡ take a old ++ piece
+    → length new ≡ a + length piece → AreAnswersBefore received marks old a → AreAnswersFrom received marks a piece → AreAnswersFrom received marks 0 new
+all-answered received marks a old piece new within is size before after = record {
+  are = λ i d below.
+      let here : i ≡ 0 + i = omega arith in
+      subst (λ (n : ℕ). IsAnswer (line received n) (marks_line marks n) (get_or new i d)) here
+      (written-after (λ n answer. IsAnswer (line received n) (marks_line marks n) answer) a old piece new within is before after.are i d (omega (arith, below, size)));
+}

@@ -40,6 +40,7 @@ use std::simd::prelude::*;
 pub(crate) fn answer_all_columns<F: FnOnce()>(
     answers: &mut [AnswerRow],
     columns: &mut [ColumnAnswer],
+    thirds: &mut Thirds,
     begin: F,
 ) -> Answered
     requires rows { length answers.old ≡ 208 }
@@ -58,7 +59,7 @@ pub(crate) fn answer_all_columns<F: FnOnce()>(
         };
     };
     begin();
-    let are_completed = complete_rows(&erasures, answers);
+    let are_completed = complete_rows(&erasures, thirds, answers);
     if are_completed {
         copy_columns(answers, 0, columns);
         mark_answered(columns);
@@ -97,18 +98,20 @@ pub fn answer_columns(
 // Adds bytes in the failed rows' answers so that all columns are codewords: they are found for 32 columns at once, and
 // lie side by side in a row. Answers whether all columns are codewords then. After `false` some bytes may be added that
 // are of no column's answer: those of failed rows don't count.
-fn complete_rows(erasures: &Erasures<208>, answers: &mut [AnswerRow]) -> bool
+fn complete_rows(
+    erasures: &Erasures<208>,
+    thirds: &mut Thirds,
+    answers: &mut [AnswerRow],
+) -> bool
     requires rows { length answers.old ≡ 208 }
     requires marks { erasures.now.marks ≡ failed_of (map answer_word answers.old) }
     requires within { marked erasures.now.marks ≤ 16 }
     ensures same { AreSameAnswers answers.old answers.new }
     ensures completed { IsTrue result → AreCompleted answers.new 0 182 }
 {
-    // Room for all groups, so that it is set to zeros once.
-    let mut thirds = [[u8x32::splat(0); 3]; 85];
     for group in 0..6usize {
         // 182 is no multiple of 32: the last 32 columns begin at column 150, and some are looked at twice.
-        if !complete_group(erasures, &mut thirds, (32 * group).min(150), answers) {
+        if !complete_group(erasures, thirds, (32 * group).min(150), answers) {
             return false;
         }
     }
@@ -177,15 +180,15 @@ fn add_lanes(lanes: u8x32, row: &mut [u8; 182], at: usize)
     prove_bytes(row);
 }
 
-/// Whether the columns of the rows' answers are codewords as they are.
-pub(crate) fn are_codewords(answers: &[AnswerRow]) -> bool
+/// Whether the columns of the rows' answers are codewords as they are. Thirds are put where the caller has room for
+/// them.
+pub(crate) fn are_codewords(thirds: &mut Thirds, answers: &[AnswerRow]) -> bool
     requires { length answers.now ≡ 208 }
     ensures { IsTrue result → (j : ℕ) → j < 182 → IsCodeword 208 16 (column (answer_bytes answers.now) j) }
 {
-    let mut thirds = [[u8x32::splat(0); 3]; 85];
     for group in 0..6usize {
         // The last 32 columns begin at column 150.
-        let values = column_values_by(&mut thirds, answers, (32 * group).min(150));
+        let values = column_values_by(thirds, answers, (32 * group).min(150));
         if !are_zeros(any_of(&values)) {
             return false;
         }

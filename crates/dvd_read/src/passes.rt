@@ -27,11 +27,12 @@ use crate::columns::{
 };
 use crate::failed::FailedRows;
 use crate::fixed::Fixed;
-use crate::rows::{answer_rows, take_data_rows, take_parity_rows};
+use crate::rows::{answer_or_take_rows, answer_rows};
 use dvd_capture::parts::{AnswerRow, ColumnAnswer, Marks, Received};
 use dvd_capture::{Stage, Work};
 use dvd_decoding::Cause;
 use rs_code::Pi;
+use std::simd::prelude::*;
 
 /// What the passes over a block came to, before the test of its rows.
 #[derive(Clone, Copy, Debug, PartialEq, Eq)]
@@ -98,11 +99,13 @@ fn answer_both<F: FnOnce()>(
     ensures columns { AreColumnsAnswered answers.new columns.new result.are_held }
 {
     let code = Pi::new();
-    if !take_rows(&code, received, marks, answers, columns) {
-        return answer_all_columns(answers, columns, begin_columns);
+    // Room for the thirds of both passes, so that it is set to zeros once.
+    let mut thirds = [[u8x32::splat(0); 3]; 85];
+    if !answer_or_take_rows(&code, received, marks, &mut thirds, answers, columns) {
+        return answer_all_columns(answers, columns, &mut thirds, begin_columns);
     }
     begin_columns();
-    if are_codewords(answers) {
+    if are_codewords(&mut thirds, answers) {
         mark_answered(columns);
         return Answered {
             failed: FailedRows::none(),
@@ -110,35 +113,7 @@ fn answer_both<F: FnOnce()>(
         };
     }
     answer_parity_rows(&code, received, marks, answers);
-    answer_all_columns(answers, columns, || ())
-}
-
-// The first pass. Answers whether all rows are taken as they were received, with their bytes in the columns; those of
-// outer parity are then not known to be codewords.
-fn take_rows(
-    code: &Pi,
-    received: &Received,
-    marks: &Marks,
-    answers: &mut [AnswerRow],
-    columns: &mut [ColumnAnswer],
-) -> bool
-    requires answers { length answers.old ≡ 208 }
-    requires columns { length columns.old ≡ 182 }
-    ensures answers_size { length answers.new ≡ 208 }
-    ensures size { length columns.new ≡ 182 }
-    ensures answered { result ≡ false → AreAnswersFrom (received_rows received.now) (marks_rows marks.now) 0 answers.new }
-    ensures upper { IsTrue result → AreAnswersBefore (received_rows received.now) (marks_rows marks.now) answers.new 192 }
-    ensures taken { IsTrue result → AreAsReceivedBefore (received_rows received.now) (marks_rows marks.now) answers.new 208 }
-    ensures own { IsTrue result → AreOwnFrom answers.new 0 columns.new }
-{
-    if !take_data_rows(code, received, marks, answers, columns) {
-        return false;
-    }
-    if take_parity_rows(received, marks, answers, columns) {
-        return true;
-    }
-    answer_parity_rows(code, received, marks, answers);
-    false
+    answer_all_columns(answers, columns, &mut thirds, || ())
 }
 
 // Answers the sixteen rows of outer parity, whatever their answers were. The others stay.

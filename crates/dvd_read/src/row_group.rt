@@ -6,7 +6,7 @@
 //! time and no answer.
 //! The ten syndromes of one row are a list with room for 32, as decoders of codes of any length read them. A lane of
 //! `any_of` is 0 exactly where that lane of each vector is: so one vector says which of 32 rows are codewords.
-ghost use Rattle.std.specs.Prelude.{◌≡◌, ◌↔◌, ℕ, ◌+◌, ◌<◌, ◌≤◌, MatchOption, None, IsTrue, length, slice_index};
+ghost use Rattle.std.specs.Prelude.{◌≡◌, ◌↔◌, ℕ, ◌+◌, ◌<◌, ◌≤◌, MatchOption, None, IsTrue, false, length, replicate, slice_index};
 ghost use Rattle.coding.specs.Field.{alpha, power};
 ghost use Rattle.coding.specs.Filling.{marked};
 ghost use Rattle.coding.specs.Nearest.{near_of};
@@ -101,11 +101,12 @@ impl<'a> RowGroup<'a> {
         // them added is then the codeword near it, which `decode` would find too.
         match self.proposals.believe(n, &syndromes, row, word) {
             Some(fix) => Some(fix),
-            None => decode_copy(self.code, row, &Erasures::none(), syndromes, word),
+            None => decode_unmarked(self.code, row, syndromes, word),
         }
     }
 
-    // The same of a row that has marks.
+    // The same of a row that has marks. Most rows have none, and pass by without room for what this needs.
+    #[inline(never)]
     fn answer_marked(
         &self,
         n: usize,
@@ -141,6 +142,21 @@ pub(crate) fn is_lost(marks: &RowMarks) -> bool
     ensures { IsTrue result ↔ 10 < marked (marks_of_row marks.now) }
 {
     marks.count() > MOST_MARKED
+}
+
+// The same of a row without marks that no proposal is right for. Most rows are answered before, and pass by without
+// room for what this needs.
+#[inline(never)]
+fn decode_unmarked(
+    code: &Pi,
+    row: &[u8; 182],
+    syndromes: ArrayVec<u8, 32>,
+    word: &mut [u8; 182],
+) -> Option<Fix>
+    requires { syndromes.items ≡ syndromes_of 10 row.now }
+    ensures { MatchOption result (near_of 182 10 row.now (replicate 182 false) ≡ None) (IsFix row.now (replicate 182 false) word.new) }
+{
+    decode_copy(code, row, &Erasures::none(), syndromes, word)
 }
 
 // Writes the codeword near a row, by its marked places and its syndromes: a copy of the row is decoded, since the row

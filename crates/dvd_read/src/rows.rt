@@ -17,7 +17,7 @@ use crate::row_group::{RowGroup, UNCHANGED, is_lost};
 use dvd_capture::RowMarks;
 use dvd_capture::parts::{AnswerRow, ColumnAnswer, Marks, Received};
 use rs_code::Pi;
-use rs_lanes::{any_of, are_zeros, row_values_by, transpose};
+use rs_lanes::{Thirds, any_of, are_zeros, row_values_by, transpose};
 use std::simd::prelude::*;
 
 /// Answers the rows from `start` on, one for each place of a piece of the answers. Several workers have a piece each;
@@ -51,13 +51,16 @@ pub fn answer_rows(
     }
 }
 
-/// Takes the first 192 rows as they were received, those of the data frames, where all are codewords without marks.
-/// Their bytes are also written into the columns: they have been transposed for their values, and needn't be once more.
-/// Answers whether all are so; if not, all 208 rows are answered.
-pub(crate) fn take_data_rows(
+/// Answers all rows of a block. They are taken as they were received, without a test of the last sixteen, where the
+/// first 192, those of the data frames, are codewords and no row has a mark: the bytes of all are then in the columns
+/// too, as they have been transposed for their values, and needn't be once more. Answers whether this is so; if not,
+/// each row is answered by the codeword near it, and the columns may be anything. Thirds are put where the caller has
+/// room for them.
+pub(crate) fn answer_or_take_rows(
     code: &Pi,
     received: &Received,
     marks: &Marks,
+    thirds: &mut Thirds,
     answers: &mut [AnswerRow],
     columns: &mut [ColumnAnswer],
 ) -> bool
@@ -65,55 +68,62 @@ pub(crate) fn take_data_rows(
     requires columns { length columns.old ≡ 182 }
     ensures answers_size { length answers.new ≡ 208 }
     ensures size { length columns.new ≡ 182 }
-    ensures upper { IsTrue result → AreAnswersBefore (received_rows received.now) (marks_rows marks.now) answers.new 192 }
-    ensures taken { IsTrue result → AreAsReceivedBefore (received_rows received.now) (marks_rows marks.now) answers.new 192 }
-    ensures copied { IsTrue result → AreColumnsOf (received_rows received.now) columns.new 192 }
     ensures answered { result ≡ false → AreAnswersFrom (received_rows received.now) (marks_rows marks.now) 0 answers.new }
-{
-    let mut transposed = [u8x32::splat(0); 182];
-    let mut thirds = [[u8x32::splat(0); 3]; 85];
-    for group in 0..6 {
-        let top = 32 * group;
-        let values = row_values_by(&mut transposed, &mut thirds, received.rows(), top);
-        if !take_group(received, marks, &values, top, &mut answers[top..top + 32]) {
-            let rows = &mut answers[top..top + 32];
-            answer_group(code, received, marks, &values, top, rows);
-            answer_rows(code, received, marks, top + 32, &mut answers[top + 32..]);
-            return false;
-        }
-        copy_transposed(&transposed, top, columns);
-    }
-    true
-}
-
-/// Takes the sixteen rows of outer parity as they were received, after all others, and writes their bytes into the
-/// columns. Answers whether none has a mark.
-pub(crate) fn take_parity_rows(
-    received: &Received,
-    marks: &Marks,
-    answers: &mut [AnswerRow],
-    columns: &mut [ColumnAnswer],
-) -> bool
-    requires answers { length answers.old ≡ 208 }
-    requires columns { length columns.old ≡ 182 }
-    requires upper { AreAnswersBefore (received_rows received.now) (marks_rows marks.now) answers.old 192 }
-    requires taken { AreAsReceivedBefore (received_rows received.now) (marks_rows marks.now) answers.old 192 }
-    requires copied { AreColumnsOf (received_rows received.now) columns.old 192 }
-    ensures answers_size { length answers.new ≡ 208 }
-    ensures size { length columns.new ≡ 182 }
-    ensures upper { AreAnswersBefore (received_rows received.now) (marks_rows marks.now) answers.new 192 }
+    ensures upper { IsTrue result → AreAnswersBefore (received_rows received.now) (marks_rows marks.now) answers.new 192 }
     ensures taken { IsTrue result → AreAsReceivedBefore (received_rows received.now) (marks_rows marks.now) answers.new 208 }
     ensures own { IsTrue result → AreOwnFrom answers.new 0 columns.new }
 {
-    let (_, parity) = answers.split_at_mut(192);
-    if !take_unmarked(received, marks, 192, parity) {
-        return false;
-    }
-    // 32 rows are transposed at once: sixteen of them are in the columns already.
+    // Room for all groups, so that it is set to zeros once.
     let mut transposed = [u8x32::splat(0); 182];
-    transpose(received.rows(), 176, &mut transposed);
-    copy_transposed(&transposed, 176, columns);
-    true
+    let mut are_taken = true;
+    for group in 0..6 {
+        let top = 32 * group;
+        let rows = &mut answers[top..top + 32];
+        // Where all are lost, their values aren't needed.
+        if answer_lost_rows(received, marks, top, rows) {
+            are_taken = false;
+            continue;
+        }
+        let values = row_values_by(&mut transposed, thirds, received.rows(), top);
+        are_taken &= answer_or_take_group(code, received, marks, &values, top, rows);
+        if are_taken {
+            copy_transposed(&transposed, top, columns);
+        }
+    }
+    let parity = &mut answers[192..];
+    if are_taken && take_unmarked(received, marks, 192, parity) {
+        // 32 rows are transposed at once: sixteen of them are in the columns already.
+        transpose(received.rows(), 176, &mut transposed);
+        copy_transposed(&transposed, 176, columns);
+        return true;
+    }
+    let values = row_values_by(&mut transposed, thirds, received.rows(), 176);
+    answer_group(code, received, marks, &values, 192, parity);
+    false
+}
+
+// Answers 32 rows by their values. Answers whether all are codewords without marks, and so as they were received.
+fn answer_or_take_group(
+    code: &Pi,
+    received: &Received,
+    marks: &Marks,
+    values: &[u8x32; 10],
+    start: usize,
+    piece: &mut [AnswerRow],
+) -> bool
+    requires size { length piece.old ≡ 32 }
+    requires rows { start + 32 ≤ 208 }
+    requires lanes { EachIndex values.now (λ k. length (line values.now k) ≡ 32) }
+    requires values { (k n : ℕ) → k < 10 → n < 32 → place values.now k n ≡ value (line (received_rows received.now) (start + n)) (power alpha k) }
+    ensures size { length piece.new ≡ 32 }
+    ensures answers { AreAnswersFrom (received_rows received.now) (marks_rows marks.now) start piece.new }
+    ensures taken { IsTrue result → AreAsReceivedFrom (received_rows received.now) (marks_rows marks.now) start piece.new }
+{
+    if are_zeros(any_of(values)) && take_unmarked(received, marks, start, piece) {
+        return true;
+    }
+    answer_group(code, received, marks, values, start, piece);
+    false
 }
 
 // Answers rows until one isn't lost. Answers whether all are. After `false` the caller answers all of them, those from
@@ -147,26 +157,6 @@ fn answer_lost(row: &[u8; 182], marks: &RowMarks, answer: &mut AnswerRow)
     ensures { IsAnswer row.now (marks_of_row marks.now) answer.new }
 {
     answer.set(row, None);
-}
-
-// Answers 32 rows as they were received, if all are codewords without marks, which their values show. Answers whether
-// they are; if not, some may have been answered so, and the caller answers all of them.
-fn take_group(
-    received: &Received,
-    marks: &Marks,
-    values: &[u8x32; 10],
-    start: usize,
-    piece: &mut [AnswerRow],
-) -> bool
-    requires size { length piece.old ≡ 32 }
-    requires rows { start + 32 ≤ 208 }
-    requires lanes { EachIndex values.now (λ k. length (line values.now k) ≡ 32) }
-    requires values { (k n : ℕ) → k < 10 → n < 32 → place values.now k n ≡ value (line (received_rows received.now) (start + n)) (power alpha k) }
-    ensures size { length piece.new ≡ 32 }
-    ensures answers { IsTrue result → AreAnswersFrom (received_rows received.now) (marks_rows marks.now) start piece.new }
-    ensures taken { IsTrue result → AreAsReceivedFrom (received_rows received.now) (marks_rows marks.now) start piece.new }
-{
-    are_zeros(any_of(values)) && take_unmarked(received, marks, start, piece)
 }
 
 // Answers at most 32 rows, by the values of 32: of those from `start` on, or of the last 32 where fewer are left. In
