@@ -98,11 +98,7 @@ pub fn answer_columns(
 // Adds bytes in the failed rows' answers so that all columns are codewords: they are found for 32 columns at once, and
 // lie side by side in a row. Answers whether all columns are codewords then. After `false` some bytes may be added that
 // are of no column's answer: those of failed rows don't count.
-fn complete_rows(
-    erasures: &Erasures<208>,
-    thirds: &mut Thirds,
-    answers: &mut [AnswerRow],
-) -> bool
+fn complete_rows(erasures: &Erasures<208>, thirds: &mut Thirds, answers: &mut [AnswerRow]) -> bool
     requires rows { length answers.old ≡ 208 }
     requires marks { erasures.now.marks ≡ failed_of (map answer_word answers.old) }
     requires within { marked erasures.now.marks ≤ 16 }

@@ -286,9 +286,10 @@ fn row_differences(received: &[u8; 182], row: &[u8; 182]) -> u32
     ensures count { result ≡ distance received.now row.now }
     ensures most { result ≤ 182 }
 {
-    let mut count = 0;
+    // A byte has room for as many, so that a vector compares 32 places.
+    let mut count = 0u8;
     for j in 0..182usize {
-        count += u32::from(received[j] != row[j]);
+        count += u8::from(received[j] != row[j]);
     }
-    count
+    u32::from(count)
 }

@@ -25,6 +25,9 @@ use rs_lanes::{any_of, copy_row};
 use rs_propose::Proposals;
 use std::simd::prelude::*;
 
+#[cfg(test)]
+mod tests;
+
 // A row with more marks than this is lost: each costs one of the ten bytes of inner parity.
 const MOST_MARKED: u32 = 10;
 

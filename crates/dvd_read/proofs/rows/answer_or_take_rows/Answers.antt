@@ -26,7 +26,7 @@ loop-group-preserved c =
     record {
       answers_size = search rules;
       size = elim c.if-are_taken.branch [
-        then-are_taken w ↦ ap length w.columns-is ∙ w.copy_transposed.ensures.size
+        | then-are_taken w ↦ ap length w.columns-is ∙ w.copy_transposed.ensures.size
         | else-are_taken w ↦ ap length w.columns-is ∙ c.loop-group.invariant.size
       ];
       answered = λ i d below.
@@ -40,7 +40,7 @@ loop-group-preserved c =
           (c.answer_or_take_group-are_taken.ensures.taken (both is).1).are
           i d (omega (arith, next));
       copied = elim c.if-are_taken.branch [
-        then-are_taken w ↦ λ is j i d inside under.
+        | then-are_taken w ↦ λ is j i d inside under.
             ap (λ (all : List ColumnAnswer). slice_index (get_or all j d).bytes i) w.columns-is
             ∙ w.copy_transposed.ensures.copied rows
             (λ k n below lane. c.row_values_by-values.ensures.transposed k n below lane ∙ ap (λ (l : List (List ℕ)). place l (top + n) k) c.rows.ensures.rows)
