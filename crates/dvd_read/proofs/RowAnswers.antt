@@ -1,5 +1,5 @@
 -- The answer to one row, and the answers to all of them as words.
-use Rattle.std.proofs.Common.{◌≡◌, ◌∙◌, ℕ, zero, suc, ◌+◌, ◌<◌, ◌≤◌, Bool, true, false, cond, List, [], ◌∷◌, length, map, take, get_or, refl, sym, ap, subst, arith, Some, None, is_none, MatchOption}
+use Rattle.std.proofs.Common.{◌≡◌, ◌∙◌, ℕ, zero, suc, ◌+◌, ◌<◌, ◌≤◌, Bool, true, false, cond, List, [], ◌∷◌, length, map, get_or, refl, sym, ap, subst, arith, Some, None, is_none, MatchOption}
 use mir.Val.{bool_byte}
 use Rattle.std.specs.declared.option.Option.{Option}
 use Rattle.std.proofs.lemmas.List.{get_or-map, ext_get_or, length-map}
@@ -10,7 +10,6 @@ use Rattle.coding.specs.Nearest.{near_of}
 use Rattle.rs_decode.specs.declared.errors.Fix.{Fix}
 use Rattle.rs_decode.proofs.Counting.{counts-from_near}
 use Rattle.rs_decode.proofs.NearSearch.{near_of-some, none-near_of}
-use Rattle.rs_decode.proofs.Marks.{marked-next}
 use Rattle.coding.specs.Product.{line}
 use Rattle.dvd_capture.proofs.Columns.{length-answers_of}
 use Rattle.dvd_capture.proofs.WorkParts.{marks-height, rows-height}
@@ -120,12 +119,6 @@ as_number false = refl
 pub flag_small : (flag : Bool) → cond flag 1 0 ≤ 1
 flag_small true = omega arith
 flag_small false = omega arith
-
--- a count that goes on by a flag
-pub flag-counted : (marks : List Bool) (i count : ℕ) → i < length marks → count ≡ marked (take i marks)
-    → count + bool_byte (get_or marks i false) ≡ marked (take (i + 1) marks)
-flag-counted marks i count within counted =
-    omega (arith, marked-next marks i within, as_number (get_or marks i false))
 
 -- the answers to the rows of a captured block are those of the first pass
 pub block_answers : (received : Received) (marks : Marks) (answers : List AnswerRow) → length answers ≡ 208

@@ -5,19 +5,17 @@
 //! Patches are the bytes to add in the failed rows, found for 32 columns at once: each is tested before it counts. A
 //! lane of `any_of` is 0 exactly where that lane of each vector is: so one vector says which of 32 columns are
 //! codewords. In clauses, of the columns from `start` on: `AreOwnFrom`, they have the bytes of the rows' answers;
-//! `AreColumnsFrom`, they are answered; `AreColumnsHeld`, the rows' answers have all their bytes. `Completes` says that
-//! patches not noted as wrong make a column a codeword, and `AreCompleted` that columns of the rows' answers are what
-//! the second pass answers to them.
-ghost use Rattle.std.specs.Prelude.{◌≡◌, ℕ, ◌+◌, ◌<◌, ◌≤◌, List, All, IsTrue, true, false, length, map, slice_index, slice_index_or, take, position, not, MatchOption};
-ghost use Rattle.coding.specs.Field.{alpha, plus, power};
+//! `AreColumnsFrom`, they are answered. `AreCompleted` says that columns of the rows' answers are what the second pass
+//! answers to them.
+ghost use Rattle.std.specs.Prelude.{◌≡◌, ℕ, ◌+◌, ◌<◌, ◌≤◌, All, IsTrue, true, false, length, map, slice_index, slice_index_or, take, position, not, MatchOption};
+ghost use Rattle.coding.specs.Field.{plus};
 ghost use Rattle.coding.specs.Words.{IsByte, IsCodeword, value};
-ghost use Rattle.rs_code.specs.Syndromes.{syndromes_of};
 ghost use Rattle.coding.specs.TwoPass.{failed_of, from_columns};
-ghost use Rattle.coding.specs.Nearest.{near_of, vanishes_at_all};
+ghost use Rattle.coding.specs.Nearest.{vanishes_at_all};
 ghost use Rattle.coding.specs.Filling.{marked};
 ghost use Rattle.coding.specs.Product.{column, line, place};
-ghost use Rattle.rs_decode.specs.Patches.{Completes, patched};
-ghost use Rattle.dvd_read.specs.Parts.{AreColumnsFrom, AreSameAnswers, answer_bytes, answer_word, column_word};
+ghost use Rattle.rs_decode.specs.Patches.{patched};
+ghost use Rattle.dvd_read.specs.Parts.{AreColumnsFrom, AreSameAnswers, answer_bytes, answer_word};
 ghost use Rattle.dvd_read.specs.Inner.Found.{AreRightFrom, IsFirstWrongRow, words_of_columns};
 ghost use Rattle.dvd_read.specs.Calls.{AreColumnsAnswered};
 ghost use Rattle.dvd_read.specs.Inner.Standing.{AreCompleted, AreOwnFrom};
@@ -51,7 +49,8 @@ pub(crate) fn answer_all_columns<F: FnOnce()>(
     ensures answered { AreColumnsAnswered answers.new columns.new result.are_held }
 {
     let failed = FailedRows::of(answers);
-    // What all columns need of the failed rows' places is computed once.
+    // What all columns need of the failed rows' places is computed once, and once more only where they are answered one
+    // by one.
     let Some(erasures) = Erasures::shared(&failed.marks, usize::from(MOST_FAILED)) else {
         return Answered {
             failed,

@@ -1,11 +1,14 @@
-//! The rows of a block that failed: no codeword is near them. All columns have them as marks, a refusal says how many
-//! they are, and so does what was fixed. So they are gathered and counted once for each block, and handed on; dvd_deep
-//! notes those of each of its rounds.
+//! The rows of a block that failed: no codeword is near them. All columns have them as marks; a refusal, what was fixed
+//! and a survey say how many they are. The two passes gather and count them once and hand them on. dvd_deep notes those
+//! of each of its rounds.
 ghost use Rattle.std.specs.Prelude.{◌≡◌, ◌≤◌, ◌<◌, ◌↔◌, IsTrue, false, true, length, map, replicate, slice_set};
 ghost use Rattle.coding.specs.Filling.{marked};
-ghost use Rattle.coding.specs.TwoPass.{failed_of};
+ghost use Rattle.coding.specs.TwoPass.{answers_of, failed_of};
+ghost use Rattle.dvd_capture.specs.Rule.{HasAnswers};
+ghost use Rattle.dvd_capture.specs.Works.{marks_of_work, rows_of, stage_of};
 ghost use Rattle.dvd_read.specs.Parts.{answer_word};
 
+use dvd_capture::Work;
 use dvd_capture::parts::AnswerRow;
 
 // More failed rows than this leave no column an answer. Each costs one of the sixteen bytes of outer parity.
@@ -49,6 +52,14 @@ impl FailedRows {
         failed
     }
 
+    /// Those of a captured block whose rows are answered, for callers that didn't decode it themselves, as a survey.
+    pub fn of_work(work: &Work) -> FailedRows
+        requires { HasAnswers (stage_of work.now) }
+        ensures { result.marks ≡ failed_of (answers_of (rows_of work.now) (marks_of_work work.now)) }
+    {
+        FailedRows::of(work.answers.rows())
+    }
+
     /// Notes that row `i` failed. A row that is noted twice counts once.
     pub fn note(&mut self, i: usize)
         requires { i < 208 }
@@ -68,8 +79,7 @@ impl FailedRows {
         self.count
     }
 
-    /// Whether no more rows failed than columns can correct: sixteen. It is asked before columns are answered, which are
-    /// all without an answer otherwise.
+    /// Whether no more rows failed than columns can correct: sixteen. With more, all columns are without an answer.
     pub fn are_few(&self) -> bool
         ensures { IsTrue result ↔ marked self.now.marks ≤ 16 }
     {

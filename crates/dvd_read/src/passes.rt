@@ -4,7 +4,7 @@
 //! A `Work` has received rows, marks, answers of rows and columns, and a stage: at Fetched no answer counts, at Refused
 //! the rows' answers do, and at Fixed the columns are the block as well. In clauses `AreColumnsHeld` says that the
 //! answers of rows have the bytes of columns, and `AreRowsHeld` that they have those of a block.
-ghost use Rattle.std.specs.Prelude.{◌≡◌, ℕ, ◌<◌, ◌≤◌, Bool, List, None, Some, true, false, is_some, length, map, not, position, slice_index_or, IsTrue, IfErr, IfOk, OnErr, OnOk};
+ghost use Rattle.std.specs.Prelude.{◌≡◌, ℕ, ◌<◌, ◌≤◌, Bool, List, None, Some, true, length, map, not, position, IsTrue, IfErr, IfOk, OnErr, OnOk};
 ghost use Rattle.coding.specs.Distance.{distance};
 ghost use Rattle.coding.specs.Filling.{marked};
 ghost use Rattle.coding.specs.Nearest.{vanishes_at_all};
@@ -20,7 +20,7 @@ ghost use Rattle.dvd_decoding.specs.Causes.{two_pass_cause};
 ghost use Rattle.coding.specs.Found.{block_differences, block_found};
 ghost use Rattle.dvd_read.specs.Parts.{AreAnswersFrom, AreColumnsFrom, AreColumnsHeld, AreRowsHeld, answer_word};
 ghost use Rattle.dvd_read.specs.Inner.Found.{words_of_columns};
-ghost use Rattle.dvd_read.specs.Inner.Standing.{AreAnswersBefore, AreAsReceivedBefore, AreCodewords, AreOwnFrom};
+ghost use Rattle.dvd_read.specs.Inner.Standing.{AreAnswersBefore, AreCodewords};
 
 use crate::columns::{
     answer_all_columns, are_codewords, first_missing, first_wrong, mark_answered, read_row,
@@ -48,7 +48,7 @@ pub struct Answered {
 /// all its rows.
 /// The stage is then Fixed, or Refused after a cause. Received bytes, marks and sectors stay.
 /// It is for callers that want the block and not its frames. `read_block` makes both calls itself, since it has to know
-/// whether the columns keep the rows.
+/// whether the rows' answers hold the block.
 pub fn two_pass(work: &mut Work) -> Result<Fixed, Cause>
     requires { HasBlock (stage_of work.old) }
 
@@ -99,7 +99,7 @@ fn answer_both<F: FnOnce()>(
     ensures columns { AreColumnsAnswered answers.new columns.new result.are_held }
 {
     let code = Pi::new();
-    // Room for the thirds of both passes, so that it is set to zeros once.
+    // Room for the thirds of both passes. It is set to zeros once, but where single rows or columns are answered.
     let mut thirds = [[u8x32::splat(0); 3]; 85];
     if !answer_or_take_rows(&code, received, marks, &mut thirds, answers, columns) {
         return answer_all_columns(answers, columns, &mut thirds, begin_columns);

@@ -130,7 +130,7 @@ impl<'a> RowGroup<'a> {
         }
         let mut flags = [false; 182];
         marks.unpack(&mut flags);
-        // With more marks than ten no codeword is near. Such rows are lost, but no clause says so here.
+        // More than ten places are marked only in lost rows, so there are always erasures here.
         let Some(erasures) = Erasures::new(&flags, 10) else {
             return None;
         };
@@ -147,7 +147,7 @@ pub(crate) fn is_lost(marks: &RowMarks) -> bool
     marks.count() > MOST_MARKED
 }
 
-// The same of a row without marks that no proposal is right for. Most rows are answered before, and pass by without
+// Writes the codeword near a row without marks that no proposal is right for, by its syndromes. Most rows are answered before, and pass by without
 // room for what this needs.
 #[inline(never)]
 fn decode_unmarked(

@@ -2,14 +2,14 @@
 //! The values of a row are all 0 for a codeword alone (`row_group`). They are found for 32 rows at once, in a vector for
 //! each power of alpha; row `n` of the 32 has lane `n` of each. In clauses `IsAnswer` says that a row is answered so, by
 //! its bytes and its marks.
-ghost use Rattle.std.specs.Prelude.{◌≡◌, ℕ, ◌+◌, ◌<◌, ◌≤◌, IsTrue, false, length, replicate, slice_index_or, EachIndex};
+ghost use Rattle.std.specs.Prelude.{◌≡◌, ℕ, ◌+◌, ◌<◌, ◌≤◌, IsTrue, false, length, replicate, EachIndex};
 ghost use Rattle.coding.specs.Field.{alpha, power};
 ghost use Rattle.coding.specs.Words.{value};
 ghost use Rattle.coding.specs.Filling.{marked};
-ghost use Rattle.dvd_capture.specs.Answers.{IsAnswer, marks_line};
+ghost use Rattle.dvd_capture.specs.Answers.{IsAnswer};
 ghost use Rattle.dvd_capture.specs.Parts.{marks_of_row, marks_rows, received_rows};
 ghost use Rattle.dvd_read.specs.Parts.{AreAnswersFrom};
-ghost use Rattle.dvd_read.specs.Inner.Standing.{AreAnswersBefore, AreColumnsOf, AreOwnFrom, AreAsReceivedBefore, AreAsReceivedFrom, IsAsReceived, top_of};
+ghost use Rattle.dvd_read.specs.Inner.Standing.{AreAnswersBefore, AreOwnFrom, AreAsReceivedBefore, AreAsReceivedFrom, IsAsReceived, top_of};
 ghost use Rattle.coding.specs.Product.{line, place};
 
 use crate::copying::copy_transposed;
@@ -21,7 +21,7 @@ use rs_lanes::{Thirds, any_of, are_zeros, row_values_by, transpose};
 use std::simd::prelude::*;
 
 /// Answers the rows from `start` on, one for each place of a piece of the answers. Several workers have a piece each;
-/// one alone has all rows. Each answer is overwritten, whatever it was. The code is made once by the caller, since its
+/// one alone goes by `answer_or_take_rows`. Each answer is overwritten, whatever it was. The code is made once by the caller, since its
 /// generator polynomial is computed.
 pub fn answer_rows(
     code: &Pi,
@@ -186,7 +186,8 @@ fn answer_group(
 }
 
 // Answers the rows from `start` on as they were received, without a test, as far as they have no mark. Answers whether
-// none has: where they are codewords, these are their answers then. Callers find out by the columns.
+// none has: where they are codewords, these are their answers then, which callers find out by the values of the rows or
+// of the columns.
 fn take_unmarked(received: &Received, marks: &Marks, start: usize, piece: &mut [AnswerRow]) -> bool
     requires { start + length piece.old ≤ 208 }
     ensures size { length piece.new ≡ length piece.old }

@@ -1,11 +1,10 @@
 -- The rows of a received block that have a PI error, by the answers to them.
-use Rattle.std.proofs.Common.{◌≡◌, ◌≢◌, ◌∙◌, ℕ, ◌⊎◌, ◌↔◌, ◌+◌, ◌<◌, ◌≤◌, Bool, true, false, cond, not, ◌||◌, nat_lt, List, [], ◌∷◌, length, get_or, take, All, count_by, inl, inr, refl, sym, ap, subst, arith, Some, None, is_none, IfSome}
+use Rattle.std.proofs.Common.{◌≡◌, ◌≢◌, ◌∙◌, ℕ, ◌⊎◌, ◌↔◌, ◌+◌, ◌<◌, ◌≤◌, Bool, true, false, cond, not, ◌||◌, nat_lt, List, [], ◌∷◌, length, All, count_by, inl, inr, refl, sym, ap, subst, arith, Some, None, IfSome}
 use mir.Val.{bool_byte}
 use Rattle.std.specs.List.{list_any, range_with_len}
 use Rattle.std.specs.declared.option.Option.{Option}
 use Rattle.std.proofs.lemmas.Bool.{cases_lt, lt-ltb}
 use Rattle.std.proofs.lemmas.Bool.Decides.{nat_tests}
-use Rattle.std.proofs.lemmas.List.{get_or-map, length-map, take_all}
 use Rattle.coding.specs.Words.{IsByte}
 use Rattle.rs_decode.specs.Errors.{error_count}
 use Rattle.coding.specs.Filling.{marked}
@@ -14,13 +13,11 @@ use Rattle.rs_decode.specs.declared.errors.Fix.{Fix}
 use Rattle.rs_decode.proofs.Counting.{error_count-self}
 use Rattle.rs_decode.proofs.NearSearch.{codeword-vanishes, near_of-is_near, vanishing-codeword}
 use Rattle.coding.specs.Product.{line}
-use Rattle.dvd_capture.specs.Answers.{IsFix, marks_line, row_answer}
-use Rattle.coding.specs.TwoPass.{answers_of, failed_of}
-use Rattle.dvd_capture.proofs.Columns.{length-answers_of}
+use Rattle.dvd_capture.specs.Answers.{IsFix, marks_line}
 use Rattle.dvd_read.proofs.MarkedColumns.{own-marked}
-use Rattle.dvd_read.proofs.RowAnswers.{as_number, get_or-answers_of}
+use Rattle.dvd_read.proofs.RowAnswers.{as_number}
 use Rattle.dvd_read.proofs.SavedFrames.{count-next}
-use Rattle.dvd_report.specs.Survey.{failed_rows, has_pi_error, pi_rows}
+use Rattle.dvd_report.specs.Survey.{has_pi_error, pi_rows}
 
 -- some place is marked where their number isn't 0
 any_marked : (marks : List Bool) → list_any (λ mark. mark) marks ≡ nat_lt 0 (marked marks)
@@ -122,25 +119,6 @@ flag-pi_error row marks answer flag size marks_size bytes failed fixed of_none o
   by_near (Some word) near_is (Some fix) found_is =
       subst (λ a. IfSome a (λ fix. flag ≡ nat_lt 0 (fix.errors + fix.erased))) found_is of_some
       ∙ fixed-pi_error row word marks fix size marks_size bytes (subst (λ a. IfSome a (IsFix row marks word)) found_is (fixed word near_is))
-
--- and whether it has an answer, whether it failed
-pub flag-failed : (rows : List (List ℕ)) (marks : List (List Bool)) (i : ℕ) (answer : Option Fix) → length rows ≡ 208 → length marks ≡ 208 → i < 208
-    → (answer ≡ None) ↔ (row_answer rows marks i ≡ None) → is_none answer ≡ get_or (failed_of (answers_of rows marks)) i false
-flag-failed rows marks i answer size marks_size below failed =
-    by_near (row_answer rows marks i) refl answer refl
-    ∙ sym (get_or-map is_none (answers_of rows marks) i None false (omega (arith, length-answers_of rows marks 208 size marks_size))
-    ∙ ap is_none (get_or-answers_of rows marks i None (omega (arith, size)) (omega (arith, marks_size)))) where
-      by_near : (near : Option (List ℕ)) → row_answer rows marks i ≡ near → (found : Option Fix) → answer ≡ found → is_none answer ≡ is_none (row_answer rows marks i)
-      by_near None near_is found found_is = rw (failed.1 near_is, near_is) refl
-      by_near (Some word) near_is None found_is = absurd (let no : None ≡ Some word = sym (failed.0 found_is) ∙ near_is in cc)
-      by_near (Some word) near_is (Some fix) found_is = rw (found_is, near_is) refl
-
--- all 208 failed rows counted
-pub failed_rows-counted : (rows : List (List ℕ)) (marks : List (List Bool)) (count n : ℕ) → length rows ≡ 208 → length marks ≡ 208 → n ≡ 208
-    → count ≡ marked (take n (failed_of (answers_of rows marks))) → count ≡ failed_rows rows marks
-failed_rows-counted rows marks count n size marks_size all counted =
-    let failed : List Bool = failed_of (answers_of rows marks) in
-    counted ∙ ap marked (take_all n failed (omega (arith, all, length-map (answers_of rows marks) is_none, length-answers_of rows marks 208 size marks_size)))
 
 -- all 208 rows counted
 pub pi_rows-counted : (rows : List (List ℕ)) (marks : List (List Bool)) (count n : ℕ) → n ≡ 208

@@ -7,11 +7,11 @@ ghost use Rattle.std.specs.declared.option.Option.TheVariants.{None};
 ghost use Rattle.coding.specs.Words.{IsByte};
 ghost use Rattle.dvd_capture.specs.Rule.{HasAnswers};
 ghost use Rattle.dvd_capture.specs.Works.{marks_of_work, rows_of, stage_of};
-ghost use Rattle.dvd_report.specs.Survey.{failed_rows, pi_rows, surveyed_with};
+ghost use Rattle.dvd_report.specs.Survey.{pi_rows, surveyed_with};
 
 use crate::counts::Surveyed;
 use dvd_capture::Work;
-use dvd_read::{Cause, Fixed};
+use dvd_read::{Cause, FailedRows, Fixed};
 use rs_decode::Fix;
 
 /// What a survey keeps of a block that was read with this answer. The work has the answers of both passes; it stays. Of
@@ -20,31 +20,27 @@ pub(crate) fn survey_block(work: &Work, answer: &Result<Fixed, Cause>) -> Survey
     requires { HasAnswers (stage_of work.now) }
     ensures { result ≡ surveyed_with (rows_of work.now) (marks_of_work work.now) (result_err answer.now) }
 {
-    let (pi, failed) = count_rows(work);
     Surveyed {
-        pi,
-        failed,
+        pi: count_pi_rows(work),
+        // A block has 208 rows, a number that eight bits hold.
+        failed: FailedRows::of_work(work).count() as u8,
         cause: answer.err(),
     }
 }
 
-// How many received rows have a PI error, and how many failed, in this order. The answers are asked and not the rows,
-// which would have to be tested once more. Both in one go through the 208 rows, whose number eight bits hold.
-fn count_rows(work: &Work) -> (u8, u8)
+// How many received rows have a PI error. The answers are asked and not the rows, which would have to be tested once
+// more.
+fn count_pi_rows(work: &Work) -> u8
     requires { HasAnswers (stage_of work.now) }
-    ensures pi { result.0 ≡ pi_rows (rows_of work.now) (marks_of_work work.now) }
-    ensures failed { result.1 ≡ failed_rows (rows_of work.now) (marks_of_work work.now) }
+    ensures { result ≡ pi_rows (rows_of work.now) (marks_of_work work.now) }
 {
-    let mut pi = 0;
-    let mut failed = 0;
+    let mut count = 0;
     for i in 0..208usize {
         // An answer says what it corrects of a row of bytes, so the row has to be one.
         prove_row(work.row(i));
-        let answer = work.answer(i);
-        pi += u8::from(has_pi_error(answer));
-        failed += u8::from(answer.is_none());
+        count += u8::from(has_pi_error(work.answer(i)));
     }
-    (pi, failed)
+    count
 }
 
 // Whether a row with this answer was received with a PI error: it failed, or a byte was corrected or marked. A marked

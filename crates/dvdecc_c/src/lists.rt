@@ -1,6 +1,7 @@
-//! Many rows by one call, for callers to whom a call costs more than a row. Each row is done by the call for one row,
-//! and by itself: what comes of one changes no other. So the many differ from the one in nothing. In the clauses
-//! `other` is any answer: a list is asked for a place with something to give where it has none, which doesn't happen.
+//! Many rows by one call, for callers to whom a call costs more than a row. What comes of each row is what the call for
+//! one row gives, and changes no other: parity is found for 32 rows at once, and each row is decoded by the call for
+//! one. In the clauses `other` is any answer: a list is asked for a place with something to give where it has none,
+//! which doesn't happen.
 //!
 //! The exports are public and keep their names (`no_mangle`), since C finds them by these. To C a slice is a pointer
 //! and a length, so each list has its own length and the lengths may differ.
@@ -11,7 +12,8 @@ ghost use Rattle.dvdecc_c.specs.Lists.{answer_to, lengths_status, row_decoded};
 ghost use Rattle.dvdecc_c.specs.declared.lists.Answer.{Answer};
 
 use crate::status;
-use crate::words::{Correction, dvdecc_row_decode, dvdecc_row_parity};
+use crate::words::{Correction, dvdecc_row_decode};
+use dvd_block::parts::rows_parity;
 
 /// What the decoding of one of many words came to. C sees its fields in this order, as include/dvdecc.h declares them.
 #[repr(C)]
@@ -29,9 +31,7 @@ pub struct Answer {
 pub extern "C" fn dvdecc_rows_parity(rows: &mut [[u8; 182]])
     ensures { (i : ℕ) → i < length rows.old → IsEncoded 182 10 (take 172 (line rows.old i)) (line rows.new i) }
 {
-    for i in 0..rows.len() {
-        dvdecc_row_parity(&mut rows[i]);
-    }
+    rows_parity(rows);
 }
 
 /// Sets each row to the codeword near it, if there is one, and answers for each. Where the three lists differ in
