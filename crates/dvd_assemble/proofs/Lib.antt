@@ -1,6 +1,5 @@
 -- Why the contracts hold: lemmas on scattered recording frames, the blocks that they name, and what they say of these.
 pub mod Assembling
-pub mod FirstRows
 pub mod Homes
 pub mod Joining
 pub mod Mastered

@@ -44,27 +44,15 @@ fn id_in(row: &[u8; 182], marks: &RowMarks) -> Option<Id>
     }
 }
 
-// The codeword near a received row. Most rows are codewords without marks, and these need no decoding.
+// The codeword near a received row. A copy is decoded: a frame is joined to its block as it was received. The marks are
+// a bit each, and the decoder reads a `bool` for each place.
 fn codeword_near(row: &[u8; 182], marks: &RowMarks) -> Option<[u8; 182]>
-    ensures { result ≡ near_of 182 10 row.now (marks_of_row marks.now) }
-{
-    let code = Pi::new();
-    if marks.is_clear() && code.is_codeword(row) {
-        Some(*row)
-    } else {
-        decoded(&code, row, marks)
-    }
-}
-
-// Likewise for any row. A copy is decoded: a frame is joined to its block as it was received. The marks are a bit each,
-// and the decoder reads a `bool` for each place.
-fn decoded(code: &Pi, row: &[u8; 182], marks: &RowMarks) -> Option<[u8; 182]>
     ensures { result ≡ near_of 182 10 row.now (marks_of_row marks.now) }
 {
     let mut word = *row;
     let mut flags = [false; 182];
     marks.unpack(&mut flags);
-    decode(code, &mut word, &flags).ok()?;
+    decode(&Pi::new(), &mut word, &flags).ok()?;
     Some(word)
 }
 
