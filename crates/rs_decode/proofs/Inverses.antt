@@ -1,24 +1,23 @@
 -- The inverse of the powers of points: what its rows take power sums to.
-use Rattle.std.proofs.Common.{◌≡◌, ◌≢◌, ℕ, zero, suc, ◌+◌, ◌-◌, ◌<◌, ◌≤◌, List, [], ◌∷◌, length, length-set, length-take-le, get_or, get_or-set_other, get_or-take, set, take, drop, replicate, All, inl, inr, refl, sym, ap, subst, ◌∙◌, arith, ◌==◌, if◌then◌else◌}
+use Rattle.std.proofs.Common.{◌≡◌, ◌≢◌, ℕ, zero, suc, ◌+◌, ◌-◌, ◌<◌, ◌≤◌, List, [], ◌∷◌, length, length-set, length-take-le, get_or, get_or-set_other, get_or-take, set, take, replicate, All, inl, inr, refl, sym, ap, subst, ◌∙◌, arith, ◌==◌, if◌then◌else◌}
 use Rattle.std.proofs.lemmas.Bool.{cases_lt}
 use Rattle.std.proofs.lemmas.Bool.Decides.{nat_tests}
-use Rattle.std.proofs.lemmas.List.{get_or-drop, get_or_past, length-drop, take_all, take_more}
+use Rattle.std.proofs.lemmas.List.{get_or_past, take_all, take_more}
 use Rattle.std.proofs.lemmas.Grind.{same_number_lists}
 use Rattle.std.proofs.lemmas.List.Elements.{All-get_or}
 use Rattle.coding.specs.Field.{plus, product, power}
 use Rattle.coding.specs.Words.{IsByte, value}
-use Rattle.gf_field.proofs.FieldLaws.{plus-comm, plus-zero, power-zero, product-assoc, product-byte, product-comm, product-one, product-zero, zero-product}
+use Rattle.gf_field.proofs.FieldLaws.{plus-comm, plus-zero, power-zero, product-byte, product-one, product-zero}
 use Rattle.rs_code.proofs.Ring.{ring}
-use Rattle.rs_code.proofs.Values.{get_or-mul_scalar, length-mul_scalar, value-byte, value-cons, value-mul_scalar, value-nil}
-use Rattle.rs_code.specs.Inner.Polynomials.{mul_scalar}
+use Rattle.rs_code.proofs.Values.{value-byte, value-cons, value-nil}
 use Rattle.rs_code.specs.Inner.PowerSums.{power_sum}
 use Rattle.coding.specs.Rows.{place}
 use Rattle.rs_lanes.specs.Inner.Lanes.{HoldsLanes}
 use Rattle.rs_decode.specs.Register.{total}
 use Rattle.rs_decode.specs.Inner.Inverse.{IsInverse, IsPolynomial, row_sum}
-use Rattle.rs_decode.specs.Inner.Locator.{at_points, distances, slope}
+use Rattle.rs_decode.specs.Inner.Locator.{at_points, distances}
 use Rattle.rs_decode.specs.Inner.Sums.{AreOnly, AreSums}
-use Rattle.rs_decode.proofs.Evaluator.{distances-at, power_sum-single, slope-at, value-times_distance}
+use Rattle.rs_decode.proofs.Evaluator.{power_sum-single, value-times_distance}
 use Rattle.rs_decode.proofs.MarksTakenOut.{distances-push}
 use Rattle.rs_decode.proofs.Totals.{total-none, total-plus, total-product, total-same, total-zeros, total-next}
 
@@ -44,11 +43,11 @@ total-power_sums n c (byte ∷ bytes) (point ∷ points) =
     (sym (product-one share (product-byte byte (total n (λ k. product (c k) (power point k))))) ∙ ap (product share) (sym (power-zero point))))
 
 -- the numbers of two points
-differ : (i j : ℕ) → j ≢ i → ◌≡◌ {A = ℕ} (if i == j then 1 else 0) 0
+pub differ : (i j : ℕ) → j ≢ i → ◌≡◌ {A = ℕ} (if i == j then 1 else 0) 0
 differ i j other = grind (arith, nat_tests)
 
 -- a point's own number
-alike : (i : ℕ) → ◌≡◌ {A = ℕ} (if i == i then 1 else 0) 1
+pub alike : (i : ℕ) → ◌≡◌ {A = ℕ} (if i == i then 1 else 0) 1
 alike i = grind (arith, nat_tests)
 
 -- row i of the inverse, times the power sums of bytes at the points, is byte i
@@ -91,12 +90,6 @@ row_sum-polynomial polynomial columns i x set =
     total-same (length polynomial) (λ k. product (place columns k i) (power x k)) (λ k. product (get_or polynomial (length polynomial - 1 - k) 0) (power x k))
     (λ k below. ap (λ c. product c (power x k)) (set k below))
     ∙ sym (value-total polynomial x)
-
--- a row that stays has the same values
-pub row_sum-same : (n i x : ℕ) (columns others : List (List ℕ)) → ((k : ℕ) → place columns k i ≡ place others k i) → row_sum n columns i x ≡ row_sum n others i x
-unfolding row_sum
-row_sum-same n i x columns others same =
-    total-same n (λ k. product (place columns k i) (power x k)) (λ k. product (place others k i) (power x k)) (λ k below. ap (λ c. product c (power x k)) (same k))
 
 -- ---- polynomials in lanes
 
@@ -171,55 +164,6 @@ IsPolynomial-leading c byte = record {
       let other : k ≢ 0 = omega arith in
       rw get_or-set_other (get_or-zeros 32 k);
 }
-
--- a multiple has multiples of the values
-pub IsPolynomial-multiple : (count c : ℕ) (lanes next : List ℕ) (f : ℕ → ℕ) → count ≤ 32 → length next ≡ 32
-    → ((k : ℕ) → k < 32 → get_or next k 0 ≡ product (get_or lanes k 0) c) → IsPolynomial count lanes f → IsPolynomial count next (λ x. product c (f x))
-IsPolynomial-multiple count c lanes next f few size each polynomial =
-    let taken : length (take count next) ≡ count = length-take-le count next (omega arith) in
-    let from : length (take count lanes) ≡ count = length-take-le count lanes (omega (arith, polynomial.size)) in
-    let word : take count next ≡ mul_scalar c (take count lanes) =
-    same_number_lists (take count next) (mul_scalar c (take count lanes)) (taken ∙ sym (length-mul_scalar c (take count lanes) ∙ from))
-    (λ k inside.
-    let below : k < count = omega (arith, taken) in
-    get_or-take count next k 0 below ∙ each k (omega arith) ∙ product-comm (get_or lanes k 0) c
-    ∙ sym (get_or-mul_scalar c (take count lanes) k ∙ ap (product c) (get_or-take count lanes k 0 below))) in
-    record {
-      size = size;
-      values = λ x. ap (λ xs. value xs x) word ∙ value-mul_scalar c (take count lanes) x ∙ ap (product c) (polynomial.values x);
-      zeros = λ k above.
-          elim (cases_lt k 32) [
-            | inl below ↦ each k below ∙ rw (polynomial.zeros k above) (zero-product c)
-            | inr past ↦ get_or_past next k 0 (omega arith)
-          ];
-    }
-
--- the polynomial of all other points, divided by its value at one, is 1 there and 0 at the others
-pub basis-value : (points : List ℕ) (i j c d : ℕ) → i < length points → j < length points → product d c ≡ 1 → d ≡ slope points (get_or points i 0) (get_or points i 0)
-    → product (product c (distances (take i points) (get_or points j 0))) (distances (drop (suc i) points) (get_or points j 0)) ≡ (if i == j then 1 else 0)
-basis-value points i j c d inside within inverse is_slope =
-    let x = get_or points j 0 in
-    let before = distances (take i points) x in
-    let after = distances (drop (suc i) points) x in
-    elim (cases_lt j i) [
-      | inl earlier ↦
-          let none : before ≡ 0 =
-          ap (distances (take i points)) (sym (get_or-take i points j 0 earlier)) ∙ distances-at (take i points) j (omega (arith, length-take-le i points (omega arith))) in
-          rw (none, product-zero c, zero-product after) (sym (differ i j (omega arith)))
-      | inr not_earlier ↦ elim (cases_lt i j) [
-        | inl later ↦
-            let place : suc i + (j - suc i) ≡ j = omega arith in
-            let none : after ≡ 0 =
-            ap (distances (drop (suc i) points)) (sym (get_or-drop (suc i) points (j - suc i) 0 ∙ ap (λ k. get_or points k 0) place))
-            ∙ distances-at (drop (suc i) points) (j - suc i) (omega (arith, length-drop (suc i) points)) in
-            rw (none, product-zero (product c before)) (sym (differ i j (omega arith)))
-        | inr not_later ↦
-            let same : j ≡ i = omega arith in
-            product-assoc c before after
-            ∙ ap (λ k. product c (product (distances (take i points) (get_or points k 0)) (distances (drop (suc i) points) (get_or points k 0)))) same
-            ∙ ap (product c) (sym (is_slope ∙ slope-at points i inside)) ∙ product-comm c d ∙ inverse ∙ sym (ap (λ k. if i == k then 1 else 0) same ∙ alike i)
-      ]
-    ]
 
 -- ---- the bytes
 

@@ -1,5 +1,6 @@
 -- Why the contracts hold: lemmas on words with errors and marked places, the codewords near them, and registers that
 -- generate lists.
+pub mod Bits
 pub mod Candidates
 pub mod Combinations
 pub mod Connections
@@ -17,6 +18,7 @@ pub mod NearSearch
 pub mod OneNear
 pub mod OnlyRegister
 pub mod Powers
+pub mod Quotients
 pub mod Registers
 pub mod Roots
 pub mod Totals

@@ -220,7 +220,7 @@ counted : (p n m : ℕ) → p ≡ 0 → n ≡ m → (if p == 0 then 1 else 0) + 
 counted p n m is_zero same = grind (arith, nat_tests)
 
 -- where a function vanishes at all points, all are zeros
-zeros_among-all : (f : ℕ → ℕ) (points : List ℕ) → ((j : ℕ) → j < length points → f (get_or points j 0) ≡ 0) → zeros_among f points ≡ length points
+pub zeros_among-all : (f : ℕ → ℕ) (points : List ℕ) → ((j : ℕ) → j < length points → f (get_or points j 0) ≡ 0) → zeros_among f points ≡ length points
 unfolding zeros_among
 zeros_among-all f [] vanishes = refl
 zeros_among-all f (x ∷ points) vanishes =

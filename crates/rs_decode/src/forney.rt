@@ -38,9 +38,9 @@ pub fn bytes_at(points: &[u8], sums: &[u8]) -> ArrayVec<u8, 32>
     bytes
 }
 
-/// The derivative of the locator at a point: the product of its distances to the others. It is a sum of logarithms, so
-/// that only one power is looked up. It isn't 0, since no two points are equal. It is public for `inverse`.
-pub fn derivative(points: &[u8], i: usize) -> u8
+// The derivative of the locator at a point: the product of its distances to the others. It is a sum of logarithms, so
+// that only one power is looked up. It isn't 0, since no two points are equal.
+fn derivative(points: &[u8], i: usize) -> u8
     requires distinct { AreDistinct points.now }
     requires inside { i < length points.now }
     requires few { length points.now ≤ 32 }

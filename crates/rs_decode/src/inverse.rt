@@ -1,22 +1,24 @@
 //! The inverse of the powers of points: what Forney's formula gives for the points alone. Many words whose marked
 //! places are the same are filled by it, each by sums of multiples of its columns.
 //! In clauses a vector is a list, whose length its type doesn't say: so they say it where a proof needs it.
-ghost use Rattle.std.specs.Prelude.{◌≡◌, ◌≢◌, ℕ, ◌+◌, ◌<◌, ◌≤◌, length, take, slice_index, ◌==◌, if◌then◌else◌};
+ghost use Rattle.std.specs.Prelude.{◌≡◌, ◌≢◌, ℕ, ◌+◌, ◌<◌, ◌≤◌, length, slice_index, All};
 ghost use Rattle.coding.specs.Field.{product};
-ghost use Rattle.coding.specs.Words.{value};
+ghost use Rattle.coding.specs.Words.{IsByte};
 ghost use Rattle.rs_code.specs.Inner.PowerSums.{AreDistinct};
 ghost use Rattle.coding.specs.Rows.{place};
-ghost use Rattle.rs_decode.specs.Inner.Inverse.{HasSums, IsInverse, IsPolynomial, row_sum};
+ghost use Rattle.rs_decode.specs.Inner.Inverse.{HasSums, IsInverse, IsPolynomial};
 ghost use Rattle.rs_decode.specs.Inner.Locator.{distances};
 ghost use Rattle.rs_decode.specs.Register.{total};
 ghost use Rattle.rs_lanes.specs.Inner.Lanes.{HoldsLanes};
 ghost use Rattle.rs_decode.specs.Inner.Sums.{AreOnly};
 
-use crate::forney::{derivative, times_distance};
+use crate::combining::as_prefix;
+use crate::forney::times_distance;
+use crate::multiples::{lane_products, multiples_of};
 use crate::power_sums::first_lanes;
 use arrayvec::ArrayVec;
 use gf_field::inv;
-use rs_lanes::{mul_scalar, multiple};
+use rs_lanes::mul_scalar;
 use std::simd::prelude::*;
 
 /// The inverse of the matrix whose row k has the k-th powers of at most sixteen points: its row i, times power sums, is
@@ -58,54 +60,77 @@ impl Inverse {
     }
 }
 
-// The columns of the inverse, row by row: row i has the coefficients of the polynomial that is 1 at point i and 0 at
-// the others. Its value at a point is a sum of coefficients times powers, so power sums take the place of the powers.
+// The columns of the inverse. Row i has the coefficients of the polynomial that is 1 at point i and 0 at the others:
+// the product of the distances to all points, divided by the distance to point i, and then by what the quotient is
+// there. Its value at a point is a sum of coefficients times powers, so power sums take the place of the powers. All
+// rows are divided at once, a lane for each: Horner's rule at point i comes to the coefficients of the quotient one by
+// one, the highest first, and so at the same time to the quotient's value at point i.
 fn inverse_columns(points: &[u8]) -> [[u8; 16]; 16]
     requires distinct { AreDistinct points.now }
     requires few { length points.now ≤ 16 }
     ensures inverse { IsInverse points.now result }
     ensures sums { HasSums points.now result }
 {
-    let mut columns = [[0; 16]; 16];
-    let mut before = one();
-    for i in 0..points.len() {
-        set_row(&mut columns, i, &basis(before, points, i)[..points.len()]);
-        before = times_distance(before, points[i]);
+    let count = points.len();
+    let locator = times_distances(one(), points).to_array();
+    let multiples = multiples_of(u8x16::from_array(as_prefix(points)));
+    let mut quotients = [u8x16::splat(0); 16];
+    let mut value = u8x16::splat(0);
+    let mut derivative = u8x16::splat(0);
+    for t in 0..count {
+        value = lane_products(&multiples, value) ^ u8x16::splat(locator[t]);
+        derivative = lane_products(&multiples, derivative) ^ value;
+        quotients[count - 1 - t] = value;
     }
-    columns
+    divided(&quotients, derivative, count)
+}
+
+// Columns with each lane divided by that of one vector. Lanes past the number of points are zeros.
+fn divided(columns: &[u8x16; 16], divisors: u8x16, count: usize) -> [[u8; 16]; 16]
+    requires few { count ≤ 16 }
+    requires bytes { (k i : ℕ) → k < count → i < count → place columns.now k i < 256 }
+    requires nonzero { (i : ℕ) → i < count → slice_index divisors i ≢ 0 }
+    ensures { (k i : ℕ) → k < count → i < count → product (slice_index divisors i) (place result k i) ≡ place columns.now k i }
+{
+    let multiples = multiples_of(inverses(divisors, count));
+    let mut quotients = [[0; 16]; 16];
+    for k in 0..count {
+        quotients[k] = lane_products(&multiples, columns[k]).to_array();
+    }
+    quotients
+}
+
+// The inverse of each of the first lanes. The others are zeros.
+fn inverses(lanes: u8x16, count: usize) -> u8x16
+    requires few { count ≤ 16 }
+    requires nonzero { (i : ℕ) → i < count → slice_index lanes i ≢ 0 }
+    ensures bytes { (i : ℕ) → i < count → slice_index result i < 256 }
+    ensures inverse { (i : ℕ) → i < count → product (slice_index lanes i) (slice_index result i) ≡ 1 }
+{
+    let bytes = lanes.to_array();
+    let mut inverses = [0; 16];
+    for i in 0..count {
+        inverses[i] = inv(bytes[i]);
+    }
+    u8x16::from_array(inverses)
 }
 
 // The polynomial 1, in the first lane: the product of no distances.
 fn one() -> u8x32
-    ensures { IsPolynomial 1 result (λ x. 1) }
+    ensures first { slice_index result 0 ≡ 1 }
+    ensures polynomial { IsPolynomial 1 result (λ x. 1) }
 {
     let mut lanes = [0; 32];
     lanes[0] = 1;
     u8x32::from_array(lanes)
 }
 
-// The polynomial that is 1 at point `i` and 0 at all others, the highest power in the first lane. It is the product of
-// the distances to the others, divided by its value at that point. That to the points before `i` is `before`, which all
-// rows share: it is divided first, and then multiplied by the distances after `i`. It has 32 lanes, as the step that it
-// shares with Forney's formula has.
-fn basis(before: u8x32, points: &[u8], i: usize) -> [u8; 32]
-    requires distinct { AreDistinct points.now }
-    requires inside { i < length points.now }
-    requires few { length points.now ≤ 16 }
-    requires before { IsPolynomial (1 + i) before (λ x. product 1 (distances (take i points.now) x)) }
-    ensures size { length result ≡ 32 }
-    ensures values { (j : ℕ) → j < length points.now
-        → value (take (length points.now) result) (slice_index points.now j) ≡ (if i == j then 1 else 0) }
-{
-    // The derivative at point `i` is the product of its distances to the others, and isn't 0.
-    let divided = multiple(before, inv(derivative(points, i)));
-    times_distances(divided, &points[i + 1..]).to_array()
-}
-
 // A polynomial times (x + a) for each `a` of the others.
 fn times_distances(lanes: u8x32, others: &[u8]) -> u8x32
     requires { length lanes ≡ 32 }
     ensures size { length result ≡ 32 }
+    ensures bytes { All IsByte result }
+    ensures first { slice_index result 0 ≡ slice_index lanes 0 }
     ensures product { (count : ℕ) (f : ℕ → ℕ) → count + length others.now ≤ 32 → IsPolynomial count lanes f
         → IsPolynomial (count + length others.now) result (λ x. product (f x) (distances others.now x)) }
 {
@@ -114,30 +139,6 @@ fn times_distances(lanes: u8x32, others: &[u8]) -> u8x32
         product = times_distance(product, *other);
     }
     product
-}
-
-// Sets row `i` to the coefficients of a polynomial, of which the highest power comes first in the list: that of x^k
-// goes to column k, so the list is read from its end. All other rows stay.
-fn set_row(columns: &mut [[u8; 16]; 16], i: usize, polynomial: &[u8])
-    requires inside { i < 16 }
-    requires few { length polynomial.now ≤ 16 }
-    ensures row { (x : ℕ) → row_sum (length polynomial.now) columns.new i x ≡ value polynomial.now x }
-    ensures others { (k r : ℕ) → r ≢ i → place columns.new k r ≡ place columns.old k r }
-{
-    let size = polynomial.len();
-    for k in 0..size {
-        put_byte(&mut columns[k], i, polynomial[size - 1 - k]);
-    }
-}
-
-// Sets a byte of a column. By itself, so that a clause says what stays of a column. It is set in place: a column that is
-// copied, changed and read again as a vector has to wait for the byte.
-fn put_byte(column: &mut [u8; 16], i: usize, byte: u8)
-    requires { i < 16 }
-    ensures set { slice_index column.new i ≡ byte }
-    ensures others { (k : ℕ) → k ≢ i → slice_index column.new k ≡ slice_index column.old k }
-{
-    column[i] = byte;
 }
 
 // The sum of the columns, each times one of the sums: lane `i` is row i times the sums.

@@ -6,6 +6,7 @@
 //! - `forney`: the bytes at given points that have given power sums, by Forney's formula.
 //! - `inverse`: what the formula gives for the points alone, [`Inverse`], by which many words are filled.
 //! - `locating`: the places where errors may be, from power sums and a locator.
+//! - `multiples`: products of lanes with lanes.
 //! - `patches`: what 32 words with the same marks lack at these, [`Patches`], proposed for all at once and tested.
 //! - `places`: the marked places of a word, [`Erasures`].
 //! - [`register`]: `shortest` finds the shortest linear feedback register that generates a list.
@@ -23,6 +24,7 @@ mod forney;
 mod inverse;
 pub mod laws;
 mod locating;
+mod multiples;
 mod patches;
 mod places;
 mod power_sums;

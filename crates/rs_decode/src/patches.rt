@@ -3,12 +3,13 @@
 //! the further sums are right too, as they are where a word has no errors, is tested there: with sixteen marked places
 //! none is left. In contracts `Completes` says of patches and a word: where `wrong` is 0 for it, it is a codeword with
 //! its bytes added.
-ghost use Rattle.std.specs.Prelude.{◌≡◌, ◌≢◌, ℕ, ◌<◌, ◌≤◌, Bool, List, false, length, slice_index, take, All, IsTrue};
+ghost use Rattle.std.specs.Prelude.{◌≡◌, ◌≢◌, ℕ, ◌+◌, ◌<◌, ◌≤◌, Bool, List, false, length, slice_index, take, All, IsTrue};
 ghost use Rattle.coding.specs.Field.{alpha, plus, power, product};
 ghost use Rattle.coding.specs.Words.{value};
-ghost use Rattle.coding.specs.Rows.{column, place};
+ghost use Rattle.coding.specs.Rows.{column, line, place};
 ghost use Rattle.coding.specs.Filling.{IsFilling, marked};
 ghost use Rattle.rs_code.specs.Inner.PowerSums.{power_sum};
+ghost use Rattle.rs_decode.specs.Register.{total};
 ghost use Rattle.rs_decode.specs.Patches.{ArePlaces, AreRight, Completes, patched};
 
 use crate::inverse::Inverse;
@@ -125,19 +126,36 @@ fn lanes_of(bytes: &[u8; 32]) -> u8x32
 
 // The bytes that words with these values need at the points, in the lanes of a vector for each point: their first power
 // sums, as many as there are points, are the values. Those past the last point are zeros.
+#[inline(always)]
 fn proposed(inverse: &Inverse, values: &[u8x32; 16]) -> [u8x32; 16]
     ensures { (k n : ℕ) → k < length inverse.now.points.items → n < 32 → place values.now k n < 256
         → place values.now k n ≡ power_sum (take (length inverse.now.points.items) (column result n)) inverse.now.points.items k }
 {
     let mut bytes = [u8x32::splat(0); 16];
-    for k in 0..inverse.points.len() {
-        add_multiples(&mut bytes, values[k], &inverse.columns[k]);
-    }
+    add_columns(&mut bytes, 0, inverse, values);
+    add_columns(&mut bytes, 8, inverse, values);
     bytes
+}
+
+// Adds to the eight vectors from `first` on the columns of the inverse, each times its value. Eight sums stay in
+// registers with what multiplies them, and sixteen wouldn't.
+#[inline(always)]
+fn add_columns(sums: &mut [u8x32; 16], first: usize, inverse: &Inverse, values: &[u8x32; 16])
+    requires { first ≤ 8 }
+    ensures size { length sums.new ≡ 16 }
+    ensures added { (i n : ℕ) → first ≤ i → i < first + 8 → n < 32 → place sums.new i n
+        ≡ plus (place sums.old i n) (total (length inverse.now.points.items) (λ k. product (place values.now k n) (place inverse.now.columns k i))) }
+    ensures below { (i : ℕ) → i < first → line sums.new i ≡ line sums.old i }
+    ensures above { (i : ℕ) → first + 8 ≤ i → line sums.new i ≡ line sums.old i }
+{
+    for k in 0..inverse.points.len() {
+        add_multiples(sums, first, values[k], &inverse.columns[k]);
+    }
 }
 
 // Lanes that are zero only where bytes at points have these values as their further power sums: none is left where
 // there are sixteen points. They are added to the values, and leave zeros where both are equal.
+#[inline(always)]
 fn left_over(points: &[u8], bytes: &[u8x32; 16], values: &[u8x32; 16]) -> u8x32
     requires nonzero { All (λ point. point ≢ 0) points.now }
     requires few { length points.now ≤ 16 }
@@ -170,15 +188,19 @@ fn with_sum(points: &[u8], bytes: &[u8x32; 16], value: u8x32, k: usize) -> u8x32
     sum
 }
 
-// Adds to each of sixteen vectors its multiple of one vector. Past the last point the factors are zeros. It is inlined,
-// so that lanes needn't pass through memory.
+// Adds to each of the eight vectors from `first` on its multiple of one vector. Past the last point the factors are
+// zeros. It is inlined, so that lanes needn't pass through memory.
 #[inline(always)]
-fn add_multiples(sums: &mut [u8x32; 16], lanes: u8x32, factors: &[u8; 16])
+fn add_multiples(sums: &mut [u8x32; 16], first: usize, lanes: u8x32, factors: &[u8; 16])
+    requires { first ≤ 8 }
     ensures size { length sums.new ≡ 16 }
-    ensures added { (k n : ℕ) → k < 16 → n < 32
-        → place sums.new k n ≡ plus (place sums.old k n) (product (slice_index lanes n) (slice_index factors.now k)) }
+    ensures added { (i n : ℕ) → first ≤ i → i < first + 8 → n < 32
+        → place sums.new i n ≡ plus (place sums.old i n) (product (slice_index lanes n) (slice_index factors.now i)) }
+    ensures below { (i : ℕ) → i < first → line sums.new i ≡ line sums.old i }
+    ensures above { (i : ℕ) → first + 8 ≤ i → line sums.new i ≡ line sums.old i }
 {
-    for k in 0..16 {
-        sums[k] = with_multiple(sums[k], lanes, factors[k]);
+    for k in 0..8 {
+        let i = first + k;
+        sums[i] = with_multiple(sums[i], lanes, factors[i]);
     }
 }

@@ -1,5 +1,5 @@
 -- The inverse of the powers of points, and polynomials in lanes that it is made of.
-use Rattle.std.specs.Prelude.{◌≡◌, ℕ, ◌<◌, ◌≤◌, List, length, slice_index, take, ◌==◌, if◌then◌else◌}
+use Rattle.std.specs.Prelude.{◌≡◌, ℕ, zero, suc, ◌<◌, ◌≤◌, List, [], ◌∷◌, ◌++◌, length, slice_index, take, ◌==◌, if◌then◌else◌}
 use Rattle.coding.specs.Field.{product, power}
 use Rattle.coding.specs.Words.{value}
 use Rattle.coding.specs.Rows.{place}
@@ -26,3 +26,8 @@ pub record IsPolynomial (count : ℕ) (lanes : List ℕ) (f : ℕ → ℕ) : Typ
   pub size : length lanes ≡ 32
   pub values : (x : ℕ) → value (take count lanes) x ≡ f x
   pub zeros : (k : ℕ) → count ≤ k → slice_index lanes k ≡ 0
+
+-- the first coefficients of a polynomial divided by (x + y), the highest power first: what Horner's rule comes to at y
+unfoldable pub quotient : List ℕ → ℕ → ℕ → List ℕ
+quotient polynomial y zero = []
+quotient polynomial y (suc count) = quotient polynomial y count ++ value (take (suc count) polynomial) y ∷ []

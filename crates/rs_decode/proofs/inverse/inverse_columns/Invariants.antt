@@ -1,13 +1,17 @@
 -- What each iteration of the loop in `inverse_columns` keeps.
-use Rattle.std.proofs.Common.{◌≡◌, ℕ, ◌+◌, ◌<◌, length, get_or, take, ◌==◌, if◌then◌else◌}
-use Rattle.coding.specs.Field.{product}
-use Rattle.rs_decode.specs.Inner.Inverse.{IsPolynomial, row_sum}
-use Rattle.rs_decode.specs.Inner.Locator.{distances}
+use Rattle.std.proofs.Common.{◌≡◌, ℕ, ◌+◌, ◌-◌, ◌<◌, length, get_or, take}
+use Rattle.coding.specs.Rows.{place}
+use Rattle.coding.specs.Words.{value}
+use Rattle.rs_decode.specs.Inner.Inverse.{quotient}
 use Rattle.rs_decode.proofs.inverse.inverse_columns.Given as goal
 
--- the rows so far are those of the inverse, and the next one goes on from the distances to their points
-abbrev pub invariant-loop-i : goal.invariant-loop-i
-invariant-loop-i l = record {
-  rows : (i j : ℕ) → i < l.i → j < length l.points → row_sum (length l.points) l.columns i (get_or l.points j 0) ≡ (if i == j then 1 else 0);
-  before : IsPolynomial (1 + l.i) l.before (λ x. product 1 (distances (take l.i l.points) x));
+-- the coefficients so far, and what they are at their own points
+abbrev pub invariant-loop-t : goal.invariant-loop-t
+invariant-loop-t l = record {
+  size : length l.quotients ≡ 16;
+  wide : length l.value ≡ 16;
+  high : length l.derivative ≡ 16;
+  coefficients : (i : ℕ) → i < length l.points → get_or l.value i 0 ≡ value (take l.t l.locator) (get_or l.points i 0);
+  own : (i : ℕ) → i < length l.points → get_or l.derivative i 0 ≡ value (quotient l.locator (get_or l.points i 0) l.t) (get_or l.points i 0);
+  set : (m i : ℕ) → m < l.t → i < length l.points → place l.quotients (l.count - 1 - m) i ≡ value (take (m + 1) l.locator) (get_or l.points i 0);
 }

@@ -3,5 +3,5 @@ use Rattle.std.proofs.Common.{arith}
 use Rattle.rs_decode.proofs.Inverses.{IsPolynomial-leading}
 use Rattle.rs_decode.proofs.inverse.one.Goals as goal
 
-pub returns : goal.returns
-returns c = IsPolynomial-leading 1 (omega arith)
+pub returns-clause-polynomial : goal.returns-clause-polynomial
+returns-clause-polynomial c = IsPolynomial-leading 1 (omega arith)
