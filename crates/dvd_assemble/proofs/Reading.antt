@@ -1,14 +1,28 @@
 -- A recording frame in its bytes, row by row.
-use Rattle.std.proofs.Common.{◌≡◌, inl, inr, ◌∙◌, ℕ, ◌+◌, ◌<◌, Bool, List, [], length, take, get_or, set, refl, arith}
+use Rattle.std.proofs.Common.{◌≡◌, inl, inr, ◌∙◌, ℕ, ◌+◌, ◌-◌, ◌*◌, ◌<◌, Bool, List, [], length, length-take-le, take, drop, get_or, set, refl, ap, arith}
 use Rattle.std.proofs.lemmas.Bool.Decides.{eqb_tells}
 use Rattle.std.proofs.lemmas.List.{get_or-set_same, get_or-set_other, length-set}
 use Rattle.coding.specs.Product.{line}
 use Rattle.dvd_capture.specs.Answers.{marks_line}
-use Rattle.dvd_capture.specs.Captured.{marks_in, record_of}
+use Rattle.dvd_capture.specs.Captured.{marks_in, record_of, record_size}
 use Rattle.dvd_capture.specs.declared.form.Form.{Form}
+use Rattle.dvd_capture.specs.declared.form.Form.TheVariants.{Plain, Marked, Listed}
 use Rattle.dvd_capture.proofs.Mapped.{mapped}
 use Rattle.dvd_merge.proofs.Places.{Tells}
 use Rattle.dvd_assemble.specs.Frames.{frame_in}
+
+-- a recorded row begins with its 182 bytes
+pub record_begins : (form : Form) (bytes : List ℕ) → length bytes ≡ record_size form → length (take 182 bytes) ≡ 182
+record_begins Plain bytes size = length-take-le 182 bytes (omega arith)
+record_begins Marked bytes size = length-take-le 182 bytes (omega arith)
+record_begins Listed bytes size = length-take-le 182 bytes (omega arith)
+
+-- recorded row k, by the number of its bytes
+pub record_cut : (form : Form) (bytes : List ℕ) (size k : ℕ) → size ≡ record_size form
+    → take (size * k + size - size * k) (drop (size * k) bytes) ≡ record_of form bytes k
+record_cut form bytes size k is =
+    let same : size * k + size - size * k ≡ size = omega arith in
+    rw same (ap (λ n. take n (drop (n * k) bytes)) is)
 
 -- the first q rows of a frame are set to those in these bytes
 pub record IsPartlyPut (form : Form) (bytes : List ℕ) (rows : List (List ℕ)) (marks : List (List Bool)) (q : ℕ) : Type 0 where

@@ -1,13 +1,13 @@
 -- A block that is read by one call.
-use Rattle.std.proofs.Common.{◌≡◌, ◌≢◌, ◌⊎◌, ◌∙◌, ℕ, ◌+◌, ◌-◌, ◌*◌, ◌<◌, ◌≤◌, ◌==◌, Bool, true, false, List, [], ◌++◌, length, set, take, drop, inl, inr, refl, sym, ap, subst, arith, Option, length-drop}
+use Rattle.std.proofs.Common.{◌≡◌, ◌≢◌, ◌⊎◌, ◌∙◌, ℕ, ◌+◌, ◌<◌, ◌≤◌, ◌==◌, Bool, true, false, List, [], ◌++◌, length, set, take, drop, inl, inr, refl, sym, ap, subst, arith, Option, length-drop}
 use Rattle.std.proofs.lemmas.Bool.Decides.{eqb_tells, nat_tests}
 use Rattle.std.proofs.Math.Seq.{drop-append_seam}
-use Rattle.std.proofs.lemmas.List.{take_all, take-append-le, length-take-le, drop-append-le, get_or-set_same, get_or-set_other}
+use Rattle.std.proofs.lemmas.List.{take_all, take-append-le, drop-append-le, get_or-set_same, get_or-set_other}
 use Rattle.std.specs.Io.KnownBytes.{Consumes}
 use Rattle.coding.specs.Product.{line}
 use Rattle.coding.specs.Recording.{record_at, row_at}
 use Rattle.dvd_capture.specs.Answers.{marks_line}
-use Rattle.dvd_capture.specs.Captured.{Captures, HasSize, BreaksNoRule, block_size, captured_marks, captured_rows, marks_in, record_marks, record_of, record_size, unit_size}
+use Rattle.dvd_capture.specs.Captured.{Captures, HasSize, BreaksNoRule, block_size, captured_marks, captured_rows, marks_in, record_marks, record_of, unit_size}
 use Rattle.dvd_capture.specs.Inner.Putting.{ArePut}
 use Rattle.dvd_capture.specs.declared.form.Form.{Form}
 use Rattle.dvd_capture.specs.declared.form.Form.TheVariants.{Plain, Marked, Listed}
@@ -28,12 +28,6 @@ row_at-lt m below = grind (arith, nat_tests)
 -- the row at recorded row m is recorded there
 pub record_at-row_at : (m : ℕ) → m < 208 → record_at (row_at m) ≡ m
 record_at-row_at m below = grind (arith, nat_tests)
-
--- a recorded row begins with its 182 bytes
-pub record_begins : (form : Form) (bytes : List ℕ) → length bytes ≡ record_size form → length (take 182 bytes) ≡ 182
-record_begins Plain bytes size = length-take-le 182 bytes (omega arith)
-record_begins Marked bytes size = length-take-le 182 bytes (omega arith)
-record_begins Listed bytes size = length-take-le 182 bytes (omega arith)
 
 -- a part of a list that is inside stays when the list grows
 pub part-append : (xs ys : List ℕ) (a n : ℕ) → a + n ≤ length xs → take n (drop a (xs ++ ys)) ≡ take n (drop a xs)
@@ -130,10 +124,3 @@ all_put form sized rows marks bytes height marks_height put = (
   mapped (λ i. record_marks form bytes (record_at i)) marks 208 [] marks_height
       (λ i below. put.marks_set i below (record_at-lt i below) ∙ sym (sized-marks form sized bytes (record_at i))),
 )
-
--- recorded row k, by the number of its bytes
-pub record_cut : (form : Form) (bytes : List ℕ) (size k : ℕ) → size ≡ record_size form
-    → take (size * k + size - size * k) (drop (size * k) bytes) ≡ take (record_size form) (drop (record_size form * k) bytes)
-record_cut form bytes size k is =
-    let same : size * k + size - size * k ≡ size = omega arith in
-    rw same (ap (λ n. take n (drop (n * k) bytes)) is)

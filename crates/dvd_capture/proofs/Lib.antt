@@ -10,6 +10,8 @@ pub mod FlatRows
 pub mod WorkParts
 pub mod FetchedCounts
 pub mod Fetching
+pub mod MarkedPlaces
+pub mod ReadParts
 pub mod RecordedFrames
 pub mod RecordedRows
 pub mod Headers

@@ -2,10 +2,14 @@
 //! with its mark bits after it in the marked form. `tactic` names lemmas for the prover. Numbers of bytes have 32 bits
 //! in answers: the longest block, a listed one with all its runs, has 113,570 bytes. A buffer that one call needs is on
 //! the stack, since nothing is allocated once blocks are read.
-ghost use Rattle.std.specs.Prelude.{◌≡◌, ◌≢◌, ℕ, ◌*◌, ◌<◌, ◌==◌, if◌then◌else◌, Bool, List, length, take, slice_set};
+ghost use Rattle.std.specs.Prelude.{◌≡◌, ◌≢◌, ℕ, ◌*◌, ◌<◌, ◌==◌, if◌then◌else◌, Bool, List, ◌++◌, ◌+◌, ◌≤◌, IfOk, OnErr, length, take, slice_set};
+ghost use Rattle.std.specs.Io.{ReadsAtMost};
+ghost use Rattle.std.specs.Io.KnownBytes.{Consumes, IsAtEnd};
+ghost use Rattle.dvd_ports.specs.Causes.{HasFilled};
+ghost use Rattle.dvd_ports.specs.Whole.{ConsumesFewer};
 ghost use Rattle.coding.specs.Recording.{row_at};
-ghost use Rattle.dvd_capture.specs.Captured.{HasSize, block_size, captured_marks, captured_rows, marks_in, record_size};
-ghost use Rattle.dvd_capture.specs.Parts.{marks_rows, received_rows};
+ghost use Rattle.dvd_capture.specs.Captured.{captured_marks, captured_rows, marks_in, record_of};
+ghost use Rattle.dvd_capture.specs.Parts.{marks_rows, received_bytes, received_rows};
 ghost use Rattle.dvd_capture.specs.Fetching.{Fetches};
 ghost use Rattle.dvd_capture.specs.Inner.Putting.{ArePut};
 ghost use Rattle.dvd_capture.specs.Works.{marks_of_work, rows_of, stage_of};
@@ -20,6 +24,14 @@ use crate::stage::Stage;
 use crate::work::Work;
 use dvd_block::row_of_record;
 use dvd_ports::{Failed, Source, read_whole};
+
+const RECORD: usize = 205; // a row and its mark bits
+
+const FIRST_RECORDS: usize = 13 * 13; // the records of the first thirteen recording frames
+
+const FIRST: usize = FIRST_RECORDS * RECORD; // their bytes, which end before the rows of outer parity, at 192 * 182
+
+const LAST: usize = 3 * 13 * RECORD; // the bytes of the last three
 
 /// What a source gave for one block.
 #[derive(Clone, Copy, Debug, PartialEq, Eq)]
@@ -86,7 +98,7 @@ pub(crate) fn fetch_plain<S: Source>(
     ensures fetches { Fetches Plain (S.seen src.old) (S.seen src.new) (received_rows received.new) (marks_rows marks.new) result }
     ensures never { (at : ℕ) → result ≢ BadMarks at }
 {
-    let answer = fill(src, Form::Plain, received.bytes_mut());
+    let answer = fill(src, received.bytes_mut());
     if answer == FetchAnswer::Full {
         received.put_in_order();
         marks.clear();
@@ -94,29 +106,15 @@ pub(crate) fn fetch_plain<S: Source>(
     answer
 }
 
-// Reads a block that has marks after the bytes of each row, by a buffer for both: 42,640 bytes don't fit in the rows.
-fn fetch_marked<S: Source>(src: &mut S, received: &mut Received, marks: &mut Marks) -> FetchAnswer
-    ensures { Fetches Marked (S.seen src.old) (S.seen src.new) (received_rows received.new) (marks_rows marks.new) result }
-{
-    // A recorded row has 182 bytes, and 23 of mark bits.
-    let mut buffer = [0; 208 * 205];
-    let answer = fill(src, Form::Marked, &mut buffer);
-    if answer == FetchAnswer::Full {
-        put_records(received, marks, Form::Marked, &buffer);
-    }
-    answer
-}
-
-// Fills a buffer with the bytes of a block, in a form that gives each block as many: `HasSize` leaves out the listed
-// form. Where all came, the block is the rows and marks that are captured in them.
+// Fills a buffer with the bytes of a plain block. Where all came, the block is the rows that are captured in them, with
+// no marks.
 #[tactic(auto, using(crate::proofs::FetchedCounts::cut_counts))]
-fn fill<S: Source>(src: &mut S, form: Form, buffer: &mut [u8]) -> FetchAnswer
-    requires form { HasSize form }
-    requires size { length buffer.old ≡ block_size form }
-    ensures size { length buffer.new ≡ block_size form }
+fn fill<S: Source>(src: &mut S, buffer: &mut [u8]) -> FetchAnswer
+    requires { length buffer.old ≡ 37_856 }
+    ensures size { length buffer.new ≡ 37_856 }
     ensures fetches { (rows : List (List ℕ)) (marks : List (List Bool))
-        → (result ≡ Full → (rows ≡ captured_rows form buffer.new) × (marks ≡ captured_marks form buffer.new))
-        → Fetches form (S.seen src.old) (S.seen src.new) rows marks result }
+        → (result ≡ Full → (rows ≡ captured_rows Plain buffer.new) × (marks ≡ captured_marks Plain buffer.new))
+        → Fetches Plain (S.seen src.old) (S.seen src.new) rows marks result }
     ensures never { (at : ℕ) → result ≢ BadMarks at }
 {
     match read_whole(src, buffer) {
@@ -124,6 +122,74 @@ fn fill<S: Source>(src: &mut S, form: Form, buffer: &mut [u8]) -> FetchAnswer
         Ok(_) => FetchAnswer::Full,
         Err(Failed) => FetchAnswer::ReadFault,
     }
+}
+
+// Reads a block that has marks after the bytes of each row. Its 42,640 bytes don't fit in the rows' buffer, and one for
+// all of them would be zeroed first and then read again. So the first thirteen recording frames come straight into the
+// rows' buffer, and are put in order there. They end before the rows of outer parity, so that each row can be set at
+// its place at once. The last three frames come into a small buffer.
+fn fetch_marked<S: Source>(src: &mut S, received: &mut Received, marks: &mut Marks) -> FetchAnswer
+    ensures { Fetches Marked (S.seen src.old) (S.seen src.new) (received_rows received.new) (marks_rows marks.new) result }
+{
+    let mut last = [0; LAST];
+    let answer = fill_marked(src, received.bytes_mut(), &mut last);
+    if answer == FetchAnswer::Full {
+        put_first(received, marks);
+        put_last(received, marks, &last);
+    }
+    answer
+}
+
+// Reads a marked block: the first frames into the front of the rows' buffer, and the last ones into their own. Where
+// all came, the block is the rows and marks that are captured in both together.
+fn fill_marked<S: Source>(src: &mut S, rows: &mut [u8], last: &mut [u8; LAST]) -> FetchAnswer
+    requires { length rows.old ≡ 37_856 }
+    ensures size { length rows.new ≡ 37_856 }
+    ensures fetches { (block : List (List ℕ)) (marks : List (List Bool))
+        → (result ≡ Full → (block ≡ captured_rows Marked (take 34_645 rows.new ++ last.new)) × (marks ≡ captured_marks Marked (take 34_645 rows.new ++ last.new)))
+        → Fetches Marked (S.seen src.old) (S.seen src.new) block marks result }
+{
+    fill_both(src, &mut rows[..FIRST], last)
+}
+
+// Fills two buffers with the bytes of a marked block. Where all came, the block is the rows and marks that are captured
+// in both together.
+#[tactic(auto, using(crate::proofs::FetchedCounts::cut_counts))]
+fn fill_both<S: Source>(src: &mut S, first: &mut [u8], last: &mut [u8]) -> FetchAnswer
+    requires first { length first.old ≡ 34_645 }
+    requires last { length last.old ≡ 7_995 }
+    ensures first { length first.new ≡ 34_645 }
+    ensures last { length last.new ≡ 7_995 }
+    ensures fetches { (rows : List (List ℕ)) (marks : List (List Bool))
+        → (result ≡ Full → (rows ≡ captured_rows Marked (first.new ++ last.new)) × (marks ≡ captured_marks Marked (first.new ++ last.new)))
+        → Fetches Marked (S.seen src.old) (S.seen src.new) rows marks result }
+{
+    match read_both(src, first, last) {
+        Ok(count) if count < FIRST + LAST => cut_off(count),
+        Ok(_) => FetchAnswer::Full,
+        Err(Failed) => FetchAnswer::ReadFault,
+    }
+}
+
+// Fills two buffers one after the other, as `read_whole` fills one that has the bytes of both. Nothing is asked for
+// after the end of the input.
+#[tactic(auto, using(crate::proofs::ReadParts::both_begun, crate::proofs::ReadParts::both_taken))]
+fn read_both<S: Source>(src: &mut S, first: &mut [u8], last: &mut [u8]) -> Result<usize, Failed>
+    requires { length first.old + length last.old ≤ 42_640 }
+    ensures first { length first.new ≡ length first.old }
+    ensures last { length last.new ≡ length last.old }
+    ensures size { length (first.new ++ last.new) ≡ length first.old + length last.old }
+    ensures bound { ReadsAtMost result (first.new ++ last.new) }
+    ensures taken { IfOk result (λ count. Consumes (S.seen src.old).bytes (S.seen src.new).bytes (take count (first.new ++ last.new))) }
+    ensures end { IfOk result (λ count. count < length (first.new ++ last.new) → IsAtEnd (S.seen src.new).bytes) }
+    ensures begun { OnErr result (ConsumesFewer (S.seen src.old).bytes (S.seen src.new).bytes (length (first.new ++ last.new))) }
+    ensures stops { HasFilled (length (first.new ++ last.new)) (S.seen src.old) (S.seen src.new) result }
+{
+    let count = read_whole(src, first)?;
+    if count < first.len() {
+        return Ok(count);
+    }
+    Ok(count + read_whole(src, last)?)
 }
 
 /// What is answered where a source ended after so many bytes of a block, or of a part of one. They are fewer than the
@@ -142,29 +208,42 @@ pub fn cut_off(bytes: usize) -> FetchAnswer
     }
 }
 
-// Sets all rows and their marks to those in these bytes, in which each recorded row has its marks after it: so no two
-// rows are side by side, and they are put one by one. Only the marked form comes here. It is a parameter, since the
-// contracts below are of any form: a definition of them has the form too.
-fn put_records(received: &mut Received, marks: &mut Marks, form: Form, bytes: &[u8])
-    requires { length bytes.now ≡ record_size form * 208 }
-    ensures { ArePut form bytes.now (received_rows received.new) (marks_rows marks.new) 208 }
+// Puts the records that are in the rows' buffer, from the first on. None is written over before it is put: a row of a
+// data frame has no higher number in the block than its record has, and fewer bytes, and rows of outer parity come
+// after these records. The clause has any bytes after them, so that `put_last` goes on from there.
+fn put_first(received: &mut Received, marks: &mut Marks)
+    ensures { (last : List ℕ) → ArePut Marked (take 34_645 (received_bytes received.old) ++ last) (received_rows received.new) (marks_rows marks.new) 169 }
 {
-    let size = form.record_size();
-    for m in 0..208 {
-        let record = &bytes[size * m..size * m + size];
-        put_record(received, marks, m, form, record);
+    for m in 0..FIRST_RECORDS {
+        let record = received.record(m);
+        put_record(received, marks, m, &record);
     }
 }
 
-// Sets the row that is recorded row `m`, and its marks. All other rows and marks stay. The first 182 bytes are the row
-// in each form; where marks are, `set_record` knows.
-fn put_record(received: &mut Received, marks: &mut Marks, m: usize, form: Form, bytes: &[u8])
+// Puts the records of the last frames, which have a buffer of their own. Those before are put already, and stay.
+fn put_last(received: &mut Received, marks: &mut Marks, last: &[u8; LAST])
+    ensures { (first : List ℕ) → length first ≡ 34_645
+        → ArePut Marked (first ++ last.now) (received_rows received.old) (marks_rows marks.old) 169
+        → ArePut Marked (first ++ last.now) (received_rows received.new) (marks_rows marks.new) 208 }
+{
+    for m in FIRST_RECORDS..208 {
+        let from = RECORD * (m - FIRST_RECORDS);
+        put_record(received, marks, m, &last[from..from + RECORD]);
+    }
+}
+
+// Sets the row that is recorded row `m`, and its marks. All other rows and marks stay, and later records that are in
+// the rows' buffer. The first 182 bytes are the row; where marks are, `set_record` knows. It is inlined, so that the
+// length of the record is known where it is copied.
+#[inline(always)]
+fn put_record(received: &mut Received, marks: &mut Marks, m: usize, bytes: &[u8])
     requires row { m < 208 }
-    requires size { length bytes.now ≡ record_size form }
+    requires size { length bytes.now ≡ 205 }
     ensures received { received_rows received.new ≡ slice_set (received_rows received.old) (row_at m) (take 182 bytes.now) }
-    ensures marks { marks_rows marks.new ≡ slice_set (marks_rows marks.old) (row_at m) (marks_in form bytes.now) }
+    ensures marks { marks_rows marks.new ≡ slice_set (marks_rows marks.old) (row_at m) (marks_in Marked bytes.now) }
+    ensures later { (k : ℕ) → m < k → k < 169 → record_of Marked (received_bytes received.new) k ≡ record_of Marked (received_bytes received.old) k }
 {
     let i = row_of_record(m);
     received.set_row(i, &bytes[..182]);
-    marks.set_record(i, form, bytes);
+    marks.set_record(i, Form::Marked, bytes);
 }

@@ -1,6 +1,6 @@
 //! Rows of 182 bytes one after the other, and how the 208 recorded rows of a block come into the order of the block
 //! where they are.
-ghost use Rattle.std.specs.Prelude.{◌≡◌, ℕ, ◌+◌, ◌*◌, ◌<◌, ◌≤◌, length};
+ghost use Rattle.std.specs.Prelude.{◌≡◌, ℕ, ◌+◌, ◌*◌, ◌<◌, ◌≤◌, length, take, drop};
 ghost use Rattle.coding.specs.Recording.{record_at};
 ghost use Rattle.dvd_capture.specs.Parts.{row_in};
 
@@ -56,13 +56,17 @@ fn move_frame(bytes: &mut [u8], f: usize)
 }
 
 /// Sets the rows from row `i` on, as many as are given, and no others. One row, a frame and all outer parity are set by
-/// it, so that its clauses serve each of them.
+/// it, so that its clauses serve each of them. It is inlined: then the number of bytes is known where they are
+/// copied. Clauses `front` and `rest` are of the bytes around them.
+#[inline(always)]
 pub(crate) fn set_rows(bytes: &mut [u8], i: usize, rows: &[u8])
     requires { 182 * i + length rows.now ≤ length bytes.old }
     ensures size { length bytes.new ≡ length bytes.old }
     ensures set { (k : ℕ) → 182 * k + 182 ≤ length rows.now → row_in bytes.new (i + k) ≡ row_in rows.now k }
     ensures before { (m : ℕ) → m < i → row_in bytes.new m ≡ row_in bytes.old m }
     ensures after { (m : ℕ) → 182 * i + length rows.now ≤ 182 * m → row_in bytes.new m ≡ row_in bytes.old m }
+    ensures front { take (182 * i) bytes.new ≡ take (182 * i) bytes.old }
+    ensures rest { drop (182 * i + length rows.now) bytes.new ≡ drop (182 * i + length rows.now) bytes.old }
 {
     let from = ROW * i;
     bytes[from..from + rows.len()].copy_from_slice(rows);

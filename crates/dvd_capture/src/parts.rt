@@ -6,13 +6,14 @@
 //! `writes_back` says of a loan for writing that the buffer is afterwards what was written through it. The clause
 //! `width` says what a type does: the prover doesn't know the length of an array in a list. Memory fails in one way, so
 //! a failure has nothing but its name.
-ghost use Rattle.std.specs.Prelude.{◌≡◌, ℕ, ◌↔◌, ◌+◌, ◌*◌, ◌<◌, ◌≤◌, false, length, take, vec_len, IfOk, IsTrue, replicate, slice_index_or, slice_set};
+ghost use Rattle.std.specs.Prelude.{◌≡◌, ℕ, ◌↔◌, ◌+◌, ◌*◌, ◌<◌, ◌≤◌, false, length, take, drop, vec_len, IfOk, IsTrue, replicate, slice_index_or, slice_set};
 ghost use Rattle.std.specs.List.{flat_map};
 ghost use Rattle.std.specs.declared.option.Option.TheVariants.{None};
 ghost use Rattle.coding.specs.Product.{line};
 ghost use Rattle.coding.specs.Recording.{record_at};
 ghost use Rattle.dvd_capture.specs.Inner.Listing.{IsFound};
-ghost use Rattle.dvd_capture.specs.Captured.{marks_in, record_size};
+ghost use Rattle.dvd_capture.specs.Captured.{marks_in, record_of, record_size};
+ghost use Rattle.dvd_capture.specs.declared.form.Form.TheVariants.{Marked};
 
 use crate::form::Form;
 use crate::order::{put_in_order, set_rows};
@@ -131,11 +132,27 @@ impl Received {
         put_in_order(&mut self.bytes);
     }
 
-    /// Sets row `i`, and nothing else. It is passed as a slice, as it is the first part of a recorded row.
+    /// The 205 bytes of recorded row `m`, where rows with their marks came straight into this buffer. They are copied
+    /// out, since the row is then set in the same buffer. It is inlined, as `set_row` is: a record is short.
+    #[inline(always)]
+    pub(crate) fn record(&self, m: usize) -> [u8; 205]
+        requires { m < 184 }
+        ensures { result ≡ record_of Marked (received_bytes self.now) m }
+    {
+        let mut record = [0; 205];
+        record.copy_from_slice(&self.bytes[205 * m..205 * m + 205]);
+        record
+    }
+
+    /// Sets row `i`, and nothing else. It is passed as a slice, as it is the first part of a recorded row. The clauses
+    /// `front` and `rest` are of bytes that aren't rows yet.
+    #[inline(always)]
     pub(crate) fn set_row(&mut self, i: usize, row: &[u8])
         requires row { i < 208 }
         requires size { length row.now ≡ 182 }
-        ensures { received_rows self.new ≡ slice_set (received_rows self.old) i row.now }
+        ensures set { received_rows self.new ≡ slice_set (received_rows self.old) i row.now }
+        ensures front { take (182 * i) (received_bytes self.new) ≡ take (182 * i) (received_bytes self.old) }
+        ensures rest { drop (182 * i + 182) (received_bytes self.new) ≡ drop (182 * i + 182) (received_bytes self.old) }
     {
         set_rows(&mut self.bytes, i, row);
     }

@@ -140,13 +140,19 @@ fn a_plain_block_is_fetched_by_single_bytes(rt: HostRuntime) -> Result<(), Fail>
 // form.
 type Cut = (usize, &'static [u64], FetchAnswer, FetchAnswer);
 
-static CUT: [Cut; 6] = [
+static CUT: [Cut; 8] = [
     (0, &[], FetchAnswer::End, FetchAnswer::End),
     (
         1,
         &[],
         FetchAnswer::Short { bytes: 1 },
         FetchAnswer::Short { bytes: 1 },
+    ),
+    (
+        34645,
+        &[],
+        FetchAnswer::Short { bytes: 34645 },
+        FetchAnswer::Short { bytes: 34645 },
     ),
     (
         37855,
@@ -162,6 +168,7 @@ static CUT: [Cut; 6] = [
     ),
     (42640, &[], FetchAnswer::Full, FetchAnswer::Full),
     (42640, &[5], FetchAnswer::ReadFault, FetchAnswer::ReadFault),
+    (42640, &[9], FetchAnswer::ReadFault, FetchAnswer::ReadFault),
 ];
 
 // A cut stream gives that, in one form.
@@ -188,20 +195,20 @@ fn a_stream_ends_or_fails_within_a_block(rt: HostRuntime) -> Result<(), Fail> {
     Ok(())
 }
 
-// A source that gives a block whole is called once for it.
-fn is_one_call(alloc: Global, form: Form, work: &mut Work) -> Result<(), Fail> {
+// A source that gives all it is asked for is called so often for a block, and the next call fails.
+fn takes_calls(alloc: Global, form: Form, calls: u64, work: &mut Work) -> Result<(), Fail> {
     let bytes = stream(alloc, 85280, 205)?;
-    let mut source = MemSource::new(bytes, 100_000, vec![in alloc; 1; 1]?);
+    let mut source = MemSource::new(bytes, 100_000, vec![in alloc; calls; 1]?);
     gives(&mut source, form, work, FetchAnswer::Full)?;
     gives(&mut source, form, work, FetchAnswer::ReadFault)
 }
 
 #[test]
-fn a_block_is_one_call_of_a_source_that_gives_it_whole(rt: HostRuntime) -> Result<(), Fail> {
+fn a_plain_block_takes_one_call_and_a_marked_one_two(rt: HostRuntime) -> Result<(), Fail> {
     let alloc = rt.alloc();
     let mut work = Work::new(alloc)?;
-    is_one_call(alloc, Form::Plain, &mut work)?;
-    is_one_call(alloc, Form::Marked, &mut work)
+    takes_calls(alloc, Form::Plain, 1, &mut work)?;
+    takes_calls(alloc, Form::Marked, 2, &mut work)
 }
 
 // Places of a block whose first row has nines, where three of them are damaged.

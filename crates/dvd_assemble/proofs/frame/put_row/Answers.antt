@@ -1,6 +1,6 @@
 -- The proof of `put_row` in src/frame.rt.
 use Rattle.std.proofs.Common.{◌∙◌, sym}
-use Rattle.dvd_capture.proofs.Fetching.{record_begins}
+use Rattle.dvd_assemble.proofs.Reading.{record_begins}
 use Rattle.dvd_assemble.proofs.frame.put_row.Goals as goal
 
 pub slice_bounds-copy_from_slice-end : goal.slice_bounds-copy_from_slice-end

@@ -33,3 +33,15 @@ returns-clause-after c = λ m more.
     same_after end _ c.args.bytes.now m
     (drop-put_mid at (end - at) c.args.bytes.now c.copy_from_slice.new.self end (omega arith) (omega (arith, c.requires)) (omega (arith, size)))
     (omega (arith, more))
+
+pub returns-clause-front : goal.returns-clause-front
+returns-clause-front c =
+    let at : ℕ = 182 * c.args.i in
+    take-put_mid_below at _ c.args.bytes.now c.copy_from_slice.new.self at (omega arith) (omega (arith, c.requires))
+
+pub returns-clause-rest : goal.returns-clause-rest
+returns-clause-rest c =
+    let at : ℕ = 182 * c.args.i in
+    let end : ℕ = at + length c.args.rows.now in
+    let size : length c.copy_from_slice.new.self ≡ length c.args.rows.now = ap length c.copy_from_slice.ensures.after in
+    drop-put_mid at (end - at) c.args.bytes.now c.copy_from_slice.new.self end (omega arith) (omega (arith, c.requires)) (omega (arith, size))

@@ -3,9 +3,8 @@ use Rattle.std.proofs.Common.{◌∙◌, Bool, List, ◌+◌, set, sym, ap, subs
 use Rattle.std.proofs.lemmas.List.{map-set}
 use Rattle.dvd_capture.specs.Captured.{marks_in}
 use Rattle.dvd_capture.specs.Parts.{marks_of_row}
-use Rattle.dvd_capture.proofs.Fetching.{record_cut}
 use Rattle.dvd_assemble.specs.Works.{frame_marks, frame_rows}
-use Rattle.dvd_assemble.proofs.Reading.{IsPartlyPut, all_put, row_put}
+use Rattle.dvd_assemble.proofs.Reading.{IsPartlyPut, all_put, record_cut, row_put}
 use Rattle.dvd_assemble.proofs.frame.FrameWork.put.Goals as goal
 
 pub loop-q-preserved : goal.loop-q-preserved
