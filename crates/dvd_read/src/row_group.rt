@@ -79,7 +79,31 @@ impl<'a> RowGroup<'a> {
 
     /// Writes the codeword near a row with marks, the one in lane `n` (clause 18). Answers what it corrects, or `None`
     /// where no codeword is near: then `word` may be anything. The row stays.
+    #[inline(always)]
     pub fn answer(
+        &self,
+        n: usize,
+        row: &[u8; 182],
+        marks: &RowMarks,
+        word: &mut [u8; 182],
+    ) -> Option<Fix>
+        requires lane { n < 32 }
+        requires values { (k : ℕ) → k < 10 → place self.now.values k n ≡ value row.now (power alpha k) }
+        ensures { MatchOption result (near_of 182 10 row.now (marks_of_row marks.now) ≡ None) (IsFix row.now (marks_of_row marks.now) word.new) }
+    {
+        // Most rows are codewords without marks, and these are their own answers. All others are a call. What it answers
+        // is taken out of its place in memory, so that what is answered of most rows needn't pass through there.
+        if self.wrong[n] == 0 && marks.is_clear() {
+            copy_row(row, word);
+            return Some(UNCHANGED);
+        }
+        let fix = self.answer_other(n, row, marks, word)?;
+        Some(fix)
+    }
+
+    // The same of any row; callers have passed by the codewords without marks.
+    #[inline(never)]
+    fn answer_other(
         &self,
         n: usize,
         row: &[u8; 182],
@@ -93,11 +117,6 @@ impl<'a> RowGroup<'a> {
         // Marked rows go by themselves: each has its own marks, which are counted even where it is a codeword.
         if !marks.is_clear() {
             return self.answer_marked(n, row, marks, word);
-        }
-        if self.wrong[n] == 0 {
-            // A codeword is its own answer.
-            copy_row(row, word);
-            return Some(UNCHANGED);
         }
         let syndromes = lane_of(&self.values, n);
         // What is proposed is right if the proposed bytes have these syndromes. As they are five at most, the row with
@@ -147,8 +166,8 @@ pub(crate) fn is_lost(marks: &RowMarks) -> bool
     marks.count() > MOST_MARKED
 }
 
-// Writes the codeword near a row without marks that no proposal is right for, by its syndromes. Most rows are answered before, and pass by without
-// room for what this needs.
+// Writes the codeword near a row without marks that no proposal is right for, by its syndromes. Most rows are answered
+// before, and pass by without room for what this needs.
 #[inline(never)]
 fn decode_unmarked(
     code: &Pi,

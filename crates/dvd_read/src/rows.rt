@@ -21,8 +21,8 @@ use rs_lanes::{Thirds, any_of, are_zeros, row_values_by, transpose};
 use std::simd::prelude::*;
 
 /// Answers the rows from `start` on, one for each place of a piece of the answers. Several workers have a piece each;
-/// one alone goes by `answer_or_take_rows`. Each answer is overwritten, whatever it was. The code is made once by the caller, since its
-/// generator polynomial is computed.
+/// one alone goes by `answer_or_take_rows`. Each answer is overwritten, whatever it was. The code is made once by the
+/// caller, since its generator polynomial is computed.
 pub fn answer_rows(
     code: &Pi,
     received: &Received,

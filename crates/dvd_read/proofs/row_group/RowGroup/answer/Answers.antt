@@ -1,17 +1,16 @@
 -- The proof of `answer` in src/row_group.rt.
-use Rattle.std.proofs.Common.{◌∙◌, Bool, List, Some, false, replicate, refl, sym, subst, arith}
+use Rattle.std.proofs.Common.{◌∙◌, Bool, List, Some, refl, sym, subst}
 use Rattle.std.proofs.lemmas.List.Elements.{All-from_get_or}
 use Rattle.coding.specs.Words.{IsByte}
 use Rattle.dvd_capture.specs.Answers.{IsFix}
-use Rattle.rs_decode.proofs.NearSearch.{near_of-some}
 use Rattle.dvd_read.proofs.Standing.{own-row}
 use Rattle.dvd_read.proofs.row_group.RowGroup.answer.Goals as goal
 
-pub returns-then-self-n-eq0 : goal.returns-then-self-n-eq0
-returns-then-self-n-eq0 c =
+pub returns-then-is_clear : goal.returns-then-is_clear
+returns-then-is_clear c =
     let row = c.args.row.now in
     let zeros = c.args.self.now.zeros c.args.n c.requires.lane c.if-self-n-eq0.true in
-    subst (λ (marks : List Bool). IsFix row marks c.copy_row.new.to (record { errors = 0; erased = 0 })) (sym (c.is_clear.ensures.0 c.if-not-is_clear.false))
+    subst (λ (marks : List Bool). IsFix row marks c.copy_row.new.to (record { errors = 0; erased = 0 })) (sym (c.is_clear.ensures.0 c.if-is_clear.true))
     (own-row row (record { bytes = c.copy_row.new.to; fix = Some (record { errors = 0; erased = 0 }) })
     (record {
       size = c.told-row;
@@ -19,11 +18,3 @@ returns-then-self-n-eq0 c =
       vanishes = λ k below. sym (c.requires.values k below) ∙ zeros k below;
     })
     c.copy_row.ensures refl)
-
-pub returns-in-Some : goal.returns-in-Some
-returns-in-Some c =
-    subst (λ (marks : List Bool). IsFix c.args.row.now marks c.believe.new.row c.in-Some.fix) (sym (c.is_clear.ensures.0 c.if-not-is_clear.false)) (
-      near_of-some 182 10 c.args.row.now c.believe.new.row (replicate 182 false) (omega arith) c.in-Some.ensures.near,
-      c.in-Some.ensures.errors,
-      c.in-Some.ensures.erased,
-    )
