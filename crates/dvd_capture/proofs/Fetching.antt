@@ -1,4 +1,4 @@
--- A block that is read by one call.
+-- A block as it is fetched: where the record of each row comes in it, and what the bytes read say of the block.
 use Rattle.std.proofs.Common.{◌≡◌, ◌≢◌, ◌⊎◌, ◌∙◌, ℕ, ◌+◌, ◌<◌, ◌≤◌, ◌==◌, Bool, true, false, List, [], ◌++◌, length, set, take, drop, inl, inr, refl, sym, ap, subst, arith, Option, length-drop}
 use Rattle.std.proofs.lemmas.Bool.Decides.{eqb_tells, nat_tests}
 use Rattle.std.proofs.Math.Seq.{drop-append_seam}

@@ -91,33 +91,27 @@ impl<'a> RowGroup<'a> {
         requires values { (k : ℕ) → k < 10 → place self.now.values k n ≡ value row.now (power alpha k) }
         ensures { MatchOption result (near_of 182 10 row.now (marks_of_row marks.now) ≡ None) (IsFix row.now (marks_of_row marks.now) word.new) }
     {
-        // Most rows are codewords without marks, and these are their own answers. All others are a call. What it answers
-        // is taken out of its place in memory, so that what is answered of most rows needn't pass through there.
-        if self.wrong[n] == 0 && marks.is_clear() {
+        // Most rows have no marks, and are codewords: these are their own answers. What a call answers is taken out of
+        // its place in memory, so that what is answered of most rows needn't pass through there.
+        if !marks.is_clear() {
+            let fix = self.answer_marked(n, row, marks, word)?;
+            return Some(fix);
+        }
+        if self.wrong[n] == 0 {
             copy_row(row, word);
             return Some(UNCHANGED);
         }
-        let fix = self.answer_other(n, row, marks, word)?;
+        let fix = self.answer_unmarked(n, row, word)?;
         Some(fix)
     }
 
-    // The same of any row; callers have passed by the codewords without marks.
+    // The same of a row without marks; callers have passed by the codewords.
     #[inline(never)]
-    fn answer_other(
-        &self,
-        n: usize,
-        row: &[u8; 182],
-        marks: &RowMarks,
-        word: &mut [u8; 182],
-    ) -> Option<Fix>
+    fn answer_unmarked(&self, n: usize, row: &[u8; 182], word: &mut [u8; 182]) -> Option<Fix>
         requires lane { n < 32 }
         requires values { (k : ℕ) → k < 10 → place self.now.values k n ≡ value row.now (power alpha k) }
-        ensures { MatchOption result (near_of 182 10 row.now (marks_of_row marks.now) ≡ None) (IsFix row.now (marks_of_row marks.now) word.new) }
+        ensures { MatchOption result (near_of 182 10 row.now (replicate 182 false) ≡ None) (IsFix row.now (replicate 182 false) word.new) }
     {
-        // Marked rows go by themselves: each has its own marks, which are counted even where it is a codeword.
-        if !marks.is_clear() {
-            return self.answer_marked(n, row, marks, word);
-        }
         let syndromes = lane_of(&self.values, n);
         // What is proposed is right if the proposed bytes have these syndromes. As they are five at most, the row with
         // them added is then the codeword near it, which `decode` would find too.
@@ -127,7 +121,8 @@ impl<'a> RowGroup<'a> {
         }
     }
 
-    // The same of a row that has marks. Most rows have none, and pass by without room for what this needs.
+    // The same of a row that has marks: it goes by itself, since they are counted even where it is a codeword. Most rows
+    // have none, and pass by without room for what this needs.
     #[inline(never)]
     fn answer_marked(
         &self,

@@ -6,11 +6,11 @@ use Rattle.dvd_capture.specs.Answers.{IsFix}
 use Rattle.dvd_read.proofs.Standing.{own-row}
 use Rattle.dvd_read.proofs.row_group.RowGroup.answer.Goals as goal
 
-pub returns-then-is_clear : goal.returns-then-is_clear
-returns-then-is_clear c =
+pub returns-then-self-n-eq0 : goal.returns-then-self-n-eq0
+returns-then-self-n-eq0 c =
     let row = c.args.row.now in
     let zeros = c.args.self.now.zeros c.args.n c.requires.lane c.if-self-n-eq0.true in
-    subst (λ (marks : List Bool). IsFix row marks c.copy_row.new.to (record { errors = 0; erased = 0 })) (sym (c.is_clear.ensures.0 c.if-is_clear.true))
+    subst (λ (marks : List Bool). IsFix row marks c.copy_row.new.to (record { errors = 0; erased = 0 })) (sym (c.is_clear.ensures.0 c.if-not-is_clear.false))
     (own-row row (record { bytes = c.copy_row.new.to; fix = Some (record { errors = 0; erased = 0 }) })
     (record {
       size = c.told-row;
