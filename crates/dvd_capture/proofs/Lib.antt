@@ -22,6 +22,7 @@ pub mod ListedUnit
 pub mod ListedWritten
 pub mod MarkPlaces
 pub mod OneSpelling
+pub mod PackedMarks
 pub mod RunStarts
 pub mod SpreadMarks
 pub mod Undamaged

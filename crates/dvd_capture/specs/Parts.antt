@@ -27,6 +27,10 @@ received_bytes received = received.bytes.items
 abbrev pub received_rows : Received → List (List ℕ)
 received_rows received = rows_in (received_bytes received)
 
+-- the bytes of one row's mark bits
+abbrev pub bits_of_row : RowMarks → List ℕ
+bits_of_row marks = marks.bits
+
 -- the marks of one row
 abbrev pub marks_of_row : RowMarks → List Bool
 marks_of_row marks = marks_of marks.bits

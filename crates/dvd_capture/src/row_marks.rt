@@ -1,11 +1,11 @@
 //! The marks of one row, as bits: place j has bit 7 - j % 8 of byte j / 8. The functions at the end are of the 23
 //! bytes, and the methods say the same of the list of 182 marks that a contract has.
-ghost use Rattle.std.specs.Prelude.{◌≡◌, ◌↔◌, ℕ, ◌+◌, ◌-◌, ◌<◌, ◌≤◌, ◌≢◌, ◌==◌, false, length, IsTrue, replicate, slice_index, slice_index_or, slice_set};
+ghost use Rattle.std.specs.Prelude.{◌≡◌, ◌↔◌, ℕ, ◌+◌, ◌-◌, ◌<◌, ◌≤◌, ◌≢◌, ◌==◌, false, length, map, IsTrue, replicate, slice_index, slice_index_or, slice_set};
 ghost use Rattle.std.specs.Int.{bit_at};
 ghost use Rattle.coding.specs.Filling.{marked};
 ghost use Rattle.dvd_capture.specs.Captured.{marks_in, record_size};
 ghost use Rattle.dvd_capture.specs.Inner.Listing.{IsFound};
-ghost use Rattle.dvd_capture.specs.MarkBits.{is_set, mark_at, marks_of};
+ghost use Rattle.dvd_capture.specs.MarkBits.{is_other, is_set, mark_at, mark_bytes, marks_of, number_of_marks};
 
 use crate::form::Form;
 use std::simd::prelude::*;
@@ -26,13 +26,31 @@ pub struct RowMarks {
 }
 
 impl RowMarks {
-    ghost use Rattle.dvd_capture.specs.Parts.{marks_of_row};
+    ghost use Rattle.dvd_capture.specs.Parts.{bits_of_row, marks_of_row};
 
     /// No marks; spare bits are 0 too.
     pub fn none() -> RowMarks
         ensures { marks_of_row result ≡ replicate 182 false }
     {
         RowMarks { bits: [0; 23] }
+    }
+
+    /// Marks of the places whose byte isn't `value`, of a byte for each place; spare bits are 0. It is public for
+    /// dvd_merge, which has a code for each place that says whether its byte is known.
+    pub fn where_not(value: u8, bytes: &[u8; 182]) -> RowMarks
+        ensures bits { bits_of_row result ≡ mark_bytes (map (is_other value) bytes.now) }
+        ensures marks { marks_of_row result ≡ map (is_other value) bytes.now }
+    {
+        RowMarks {
+            bits: pack_others(value, bytes),
+        }
+    }
+
+    /// The 23 bytes of mark bits, as a recorded row has them in the marked form. Spare bits are as they came.
+    pub fn bits(&self) -> &[u8; 23]
+        ensures { result.now ≡ bits_of_row self.now }
+    {
+        &self.bits
     }
 
     /// Whether no place is marked.
@@ -193,6 +211,30 @@ fn put_bits(bits: u8, marks: &mut [u8], at: usize)
 {
     let lanes = u8x8::splat(bits) & u8x8::from_array(BITS);
     lanes.copy_to_slice(&mut marks[at..]);
+}
+
+// The mark bits of the places whose byte isn't `value`: 23 bytes, the spare bits 0.
+fn pack_others(value: u8, bytes: &[u8; 182]) -> [u8; 23]
+    ensures { result ≡ mark_bytes (map (is_other value) bytes.now) }
+{
+    let mut bits = [0; 23];
+    for k in 0..22 {
+        bits[k] = other_bits(value, u8x8::from_slice(&bytes[8 * k..]));
+    }
+    // The last byte has six places, 176 to 181. Eight are read, to fill a vector. The shift drops the two before them,
+    // and leaves two bits of 0.
+    bits[22] = other_bits(value, u8x8::from_slice(&bytes[174..])) << 2;
+    bits
+}
+
+// A bit for each of eight bytes, set where it isn't `value`, the first the highest: eight make one byte of mark bits.
+// It is inlined, so that the eight bytes needn't pass through memory.
+#[inline(always)]
+fn other_bits(value: u8, bytes: u8x8) -> u8
+    ensures { result ≡ number_of_marks (map (is_other value) bytes) }
+{
+    // `to_bitmask` makes the first lane the lowest bit, so the lanes are reversed.
+    bytes.reverse().simd_ne(u8x8::splat(value)).to_bitmask() as u8
 }
 
 // Sets the mark of place `j`. All other bits stay, the spare ones too. The first place of a byte has its highest bit.

@@ -1,47 +1,13 @@
 -- Rows in the marked form.
-use Rattle.std.proofs.Common.{◌≡◌, ℕ, ◌+◌, ◌*◌, ◌<◌, ◌≤◌, Bool, false, if◌then◌else◌, List, [], ◌∷◌, ◌++◌, length, map, take, drop, get_or, set, refl, sym, ◌∙◌, ap, arith}
+use Rattle.std.proofs.Common.{◌≡◌, ℕ, ◌<◌, Bool, false, List, [], length, get_or, sym, ◌∙◌, ap, arith}
 use Rattle.std.specs.Simd.Lanes.{zip2}
-use Rattle.std.proofs.lemmas.List.Sums.{fold_more}
-use Rattle.std.proofs.lemmas.List.{ext_get_or, map-append, take-append-drop, take_all, take_more, take_more_set}
+use Rattle.std.proofs.lemmas.List.{ext_get_or}
 use Rattle.std.proofs.lemmas.Simd.{get_or-zip2, length-zip2}
 use Rattle.coding.specs.Product.{line}
 use Rattle.dvd_capture.specs.Answers.{marks_line}
 use Rattle.dvd_merge.specs.Join.{Table, join, join_rows, join_tables, known_row, seen, seen_row, seen_table}
-use Rattle.dvd_merge.specs.MarkedText.{number_of_marks, with_mark_bit}
 use Rattle.dvd_merge.specs.declared.place.Place.{Place}
 use Rattle.dvd_merge.specs.declared.place.Place.TheVariants.{Unseen}
-
--- the number of the first marks of a row of eight
-abbrev pub first_number : List Bool → ℕ → ℕ
-first_number marks k = number_of_marks (take k marks)
-
--- no marks make the number 0
-pub first_number-none : (marks : List Bool) → first_number marks 0 ≡ 0
-unfolding number_of_marks
-first_number-none marks = refl
-
--- one mark more doubles the number, and adds 1 if it is set
-pub first_number-more : (marks : List Bool) (k : ℕ) (mark : Bool) → k < length marks → get_or marks k false ≡ mark
-    → first_number marks (k + 1) ≡ 2 * first_number marks k + (if mark then 1 else 0)
-unfolding number_of_marks
-first_number-more marks k mark within is =
-    fold_more with_mark_bit 0 marks k false within ∙ ap (λ m. 2 * first_number marks k + (if m then 1 else 0)) is
-
--- one cell more of a row's bytes or marks
-pub cell_more : {B : Type 0} (f : Place → B) (places : List Place) (cells : List B) (j : ℕ) (cell : B) → j < length places → j < length cells
-    → take j cells ≡ map f (take j places) → cell ≡ f (get_or places j Unseen) → take (j + 1) (set cells j cell) ≡ map f (take (j + 1) places)
-cell_more f places cells j cell in_places in_cells before is =
-    take_more_set cells j cell in_cells ∙ ap (λ prefix. prefix ++ cell ∷ []) before ∙ ap (λ c. map f (take j places) ++ c ∷ []) is
-    ∙ sym (map-append f (take j places) (get_or places j Unseen ∷ [])) ∙ ap (map f) (sym (take_more places j Unseen in_places))
-
--- all cells, and what is after them
-pub cells_all : {B : Type 0} (f : Place → B) (places : List Place) (cells old : List B) (j n : ℕ) → n ≤ j → j ≤ n → length places ≡ n
-    → take j cells ≡ map f (take j places) → drop n cells ≡ drop n old → cells ≡ map f places ++ drop n old
-cells_all f places cells old j n least most size prefix past =
-    let last : j ≡ n = omega (arith, least, most) in
-    sym (take-append-drop n cells)
-    ∙ ap (λ l. l ++ drop n cells) (ap (λ k. take k cells) (sym last) ∙ prefix ∙ ap (map f) (take_all j places (omega (arith, size, last))))
-    ∙ ap (λ l. map f places ++ l) past
 
 -- a list that is joined at each place is the join
 pub zipped_all : {A B C : Type 0} (f : A → B → C) (xs : List A) (ys : List B) (zs : List C) (n : ℕ) (a : A) (b : B) (c : C)

@@ -1,109 +1,20 @@
 -- A marked text is read back as the rows and the marks of its table.
-use Rattle.std.proofs.Common.{◌≡◌, ◌∙◌, ℕ, zero, suc, ◌+◌, ◌-◌, ◌*◌, ◌/◌, ◌%◌, ◌<◌, ◌≤◌, ◌==◌, Bool, true, false, if◌then◌else◌, List, [], ◌∷◌, ◌++◌, length, map, take, drop, get_or, All, inl, inr, refl, sym, ap, subst, arith, length-append}
-use Rattle.std.specs.Int.{bit_at}
-use Rattle.std.proofs.lemmas.Bool.{cases_lt}
+use Rattle.std.proofs.Common.{◌≡◌, ◌∙◌, ℕ, ◌<◌, Bool, List, [], ◌++◌, length, map, take, drop, All, sym, ap, subst, arith, length-append}
 use Rattle.std.proofs.Math.Seq.{drop-append_seam}
-use Rattle.std.proofs.lemmas.List.{get_or-drop, get_or-map, get_or-take, get_or_append_left, length-drop, length-map, length-take-le, take_all}
-use Rattle.std.proofs.lemmas.List.FromFn.{length-map-range_with_len, get_or-map-range_with_len}
-use Rattle.std.proofs.lemmas.Nat.Bits.{bit_at-suc, bit_at_lowest}
+use Rattle.std.proofs.lemmas.List.{get_or-map, length-map, take_all}
+use Rattle.std.proofs.lemmas.List.FromFn.{length-map-range_with_len}
 use Rattle.coding.specs.Product.{line}
 use Rattle.coding.specs.Recording.{record_at}
 use Rattle.dvd_capture.specs.Captured.{captured_marks, captured_rows, marks_in, record_of}
-use Rattle.dvd_capture.specs.MarkBits.{mark_at, marks_of}
+use Rattle.dvd_capture.specs.MarkBits.{mark_byte, mark_bytes, marks_of}
 use Rattle.dvd_capture.specs.declared.form.Form.TheVariants.{Marked}
 use Rattle.dvd_capture.proofs.Fetching.{part-append, record_at-lt, row_at-record_at}
 use Rattle.dvd_capture.proofs.Mapped.{mapped}
-use Rattle.dvd_capture.proofs.MarkLists.{all_marks}
+use Rattle.dvd_capture.proofs.PackedMarks.{marks-back}
 use Rattle.dvd_capture.proofs.RecordedRows.{record_row}
 use Rattle.dvd_merge.specs.Join.{Table, byte_of, joined_marks, joined_rows, joined_mark, known_row}
-use Rattle.dvd_merge.specs.MarkedText.{mark_byte, mark_bytes, marked_row, marked_text, number_of_marks}
+use Rattle.dvd_merge.specs.MarkedText.{marked_row, marked_text}
 use Rattle.dvd_merge.proofs.Costs.{bytes-row, marks-row}
-use Rattle.dvd_merge.proofs.Records.{first_number, first_number-more}
-
--- the binary digit of a mark
-digit : Bool → ℕ
-digit mark = if mark then 1 else 0
-
--- it is 1 where the mark is set
-digit_is : (mark : Bool) → (digit mark == 1) ≡ mark
-unfolding digit
-digit_is true = refl
-digit_is false = refl
-
--- it is 0 or 1
-digit-lt : (mark : Bool) → digit mark < 2
-unfolding digit
-digit-lt true = omega arith
-digit-lt false = omega arith
-
--- a number with one digit more, and its bits
-lowest : (n d : ℕ) → d < 2 → bit_at (2 * n + d) 0 ≡ d
-lowest n d few = bit_at_lowest (2 * n + d) ∙ omega (arith, few)
-
--- the other bits are those of the number, one place higher
-higher : (n d k : ℕ) → d < 2 → bit_at (2 * n + d) (suc k) ≡ bit_at n k
-higher n d k few = let half : (2 * n + d) / 2 ≡ n = omega (arith, few) in bit_at-suc (2 * n + d) k ∙ ap (λ m. bit_at m k) half
-
--- mark i of n is bit n - 1 - i
-number-bit : (marks : List Bool) (n i : ℕ) → i < n → n ≤ length marks → (bit_at (first_number marks n) (n - 1 - i) == 1) ≡ get_or marks i false
-unfolding digit
-number-bit marks zero i below within = absurd (omega (arith, below))
-number-bit marks (suc n) i below within = elim (cases_lt i n) [
-  | inl lt ↦
-      let next : suc n - 1 - i ≡ suc (n - 1 - i) = omega (arith, lt) in
-      ap (λ k. bit_at (first_number marks (suc n)) k == 1) next
-      ∙ ap (λ m. bit_at m (suc (n - 1 - i)) == 1) more
-      ∙ ap (λ b. b == 1) (higher (first_number marks n) (digit (get_or marks n false)) (n - 1 - i) (digit-lt (get_or marks n false)))
-      ∙ number-bit marks n i lt (omega (arith, within))
-  | inr le ↦
-      let last : i ≡ n = omega (arith, le, below) in
-      let first : suc n - 1 - i ≡ 0 = omega (arith, last) in
-      ap (λ k. bit_at (first_number marks (suc n)) k == 1) first
-      ∙ ap (λ m. bit_at m 0 == 1) more
-      ∙ ap (λ b. b == 1) (lowest (first_number marks n) (digit (get_or marks n false)) (digit-lt (get_or marks n false)))
-      ∙ digit_is (get_or marks n false)
-      ∙ ap (λ k. get_or marks k false) (sym last)
-]
-  where
-    more : first_number marks (suc n) ≡ 2 * first_number marks n + digit (get_or marks n false)
-    more =
-        let one : n + 1 ≡ suc n = omega arith in
-        ap (first_number marks) (sym one) ∙ first_number-more marks n (get_or marks n false) (omega (arith, within)) refl
-
--- the marks of a row come back
-mark-back : (marks : List Bool) (j : ℕ) → length marks ≡ 182 → j < 182 → mark_at (mark_bytes marks) j ≡ get_or marks j false
-unfolding mark_bytes
-mark-back marks j size below =
-    ap (λ byte. bit_at byte (7 - j % 8) == 1) (get_or-map-range_with_len (mark_byte marks) 0 23 (j / 8) (j / 8) 0 (omega (arith, below)) (omega arith))
-    ∙ ap (λ bits. bit_at (number_of_marks bits) (7 - j % 8) == 1) (sym (take_all 8 eight (omega (arith, long))))
-    ∙ ap (λ k. bit_at (first_number eight 8) k == 1) place
-    ∙ number-bit eight 8 (j % 8) (omega arith) (omega (arith, long))
-    ∙ get_or-take 8 (drop (8 * (j / 8)) padded) (j % 8) false (omega arith)
-    ∙ get_or-drop (8 * (j / 8)) padded (j % 8) false
-    ∙ ap (λ k. get_or padded k false) whole
-    ∙ get_or_append_left marks (false ∷ false ∷ []) false j (omega (arith, below, size))
-  where
-    padded : List Bool
-    padded = marks ++ false ∷ false ∷ []
-
-    eight : List Bool
-    eight = take 8 (drop (8 * (j / 8)) padded)
-
-    padded_size : length padded ≡ 184
-    padded_size = length-append marks (false ∷ false ∷ []) ∙ omega (arith, size)
-
-    long : length eight ≡ 8
-    long = length-take-le 8 (drop (8 * (j / 8)) padded) (omega (arith, below, padded_size, length-drop (8 * (j / 8)) padded))
-
-    place : 7 - j % 8 ≡ 8 - 1 - j % 8
-    place = omega arith
-
-    whole : 8 * (j / 8) + j % 8 ≡ j
-    whole = omega arith
-
--- the mark bytes of a row are read back as its 182 marks
-marks-back : (marks : List Bool) → length marks ≡ 182 → marks_of (mark_bytes marks) ≡ marks
-marks-back marks size = sym (all_marks (mark_bytes marks) marks size (λ j below. sym (mark-back marks j size below)))
 
 module _ (table : Table) (height : length table ≡ 208) (widths : All (λ row. length row ≡ 182) table) where
   -- each row of the table has 182 places

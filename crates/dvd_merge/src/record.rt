@@ -1,16 +1,15 @@
 //! Rows in the marked form: 182 bytes, and 23 bytes with a bit for each place, set where no one byte is known.
 ghost use Rattle.std.specs.Prelude.{◌≡◌, length, map};
 ghost use Rattle.dvd_merge.specs.Join.{byte_of};
-ghost use Rattle.dvd_merge.specs.MarkedText.{mark_bytes, marked_row, marked_text, number_of_marks};
-ghost use Rattle.dvd_merge.specs.Inner.Rows.{is_unknown};
+ghost use Rattle.dvd_merge.specs.MarkedText.{marked_row, marked_text};
 ghost use Rattle.dvd_merge.specs.Planes.{row_of, table_of_planes};
 
 use crate::lanes::known_bytes;
 use crate::place::SEEN;
 use crate::row::start_of;
 use dvd_block::row_of_record;
+use dvd_capture::RowMarks;
 use rs_lanes::{load, store};
-use std::simd::prelude::*;
 
 // The bytes of a recorded row in the marked form: 182 and 23 of mark bits.
 const RECORD: usize = 205;
@@ -40,7 +39,8 @@ fn fill_record(values: &[u8; 182], codes: &[u8; 182], row: &mut [u8; RECORD])
 {
     let (bytes, bits) = row.split_at_mut(182);
     fill_bytes(values, codes, bytes);
-    fill_bits(codes, bits);
+    // A place has a known byte where its code is SEEN. One in conflict has another code, and so is marked too.
+    bits.copy_from_slice(RowMarks::where_not(SEEN, codes).bits());
 }
 
 // The byte of each place, and 0 where none is known. The last of six groups of 32 begins within the one before, and
@@ -53,28 +53,4 @@ fn fill_bytes(values: &[u8; 182], codes: &[u8; 182], bytes: &mut [u8])
         let at = start_of(group);
         store(known_bytes(load(values, at), load(codes, at)), bytes, at);
     }
-}
-
-// The mark bits of a row. They come from the codes alone: a place has a known byte where its code is SEEN.
-fn fill_bits(codes: &[u8; 182], bits: &mut [u8])
-    requires { length bits.old ≡ 23 }
-    ensures { bits.new ≡ mark_bytes (map is_unknown codes.now) }
-{
-    for k in 0..22 {
-        bits[k] = marks_byte(u8x8::from_slice(&codes[8 * k..]));
-    }
-    // The last byte has six places, 176 to 181. Eight are read, to fill a vector. The shift drops the two before them,
-    // and leaves two bits of 0.
-    bits[22] = marks_byte(u8x8::from_slice(&codes[174..])) << 2;
-}
-
-// The mark bits of eight places, the first the highest, as the marked form has them: eight make one byte of it. It is
-// inlined, so that the eight codes needn't pass through memory.
-#[inline(always)]
-fn marks_byte(codes: u8x8) -> u8
-    ensures { result ≡ number_of_marks (map is_unknown codes) }
-{
-    // `to_bitmask` makes the first lane the lowest bit, so the lanes are reversed. A place in conflict doesn't have the
-    // code of a seen one, and so is marked too.
-    codes.reverse().simd_ne(u8x8::splat(SEEN)).to_bitmask() as u8
 }
