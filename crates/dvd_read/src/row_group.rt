@@ -6,7 +6,7 @@
 //! time and no answer.
 //! The ten syndromes of one row are a list with room for 32, as decoders of codes of any length read them. A lane of
 //! `any_of` is 0 exactly where that lane of each vector is: so one vector says which of 32 rows are codewords.
-ghost use Rattle.std.specs.Prelude.{◌≡◌, ◌↔◌, ℕ, ◌+◌, ◌<◌, ◌≤◌, MatchOption, None, IsTrue, false, length, replicate, slice_index};
+ghost use Rattle.std.specs.Prelude.{◌≡◌, ◌↔◌, ℕ, ◌+◌, ◌<◌, ◌≤◌, MatchOption, None, Some, IsTrue, false, length, replicate, slice_index};
 ghost use Rattle.coding.specs.Field.{alpha, power};
 ghost use Rattle.coding.specs.Filling.{marked};
 ghost use Rattle.coding.specs.Nearest.{near_of};
@@ -15,6 +15,7 @@ ghost use Rattle.coding.specs.Words.{value};
 ghost use Rattle.rs_code.specs.Syndromes.{syndromes_of};
 ghost use Rattle.dvd_capture.specs.Answers.{IsFix};
 ghost use Rattle.dvd_capture.specs.Parts.{marks_of_row};
+ghost use Rattle.dvd_read.specs.Inner.Standing.{IsAsReceived};
 
 use crate::lanes::{bytes_of, lane_of};
 use arrayvec::ArrayVec;
@@ -34,12 +35,6 @@ const MOST_MARKED: u32 = 10;
 // For fewer rows than this, to decode each takes less time than to propose for 32: proposing goes through all lanes,
 // however few are wrong. Any number gives the same answers.
 const FEWEST_PROPOSED: usize = 4;
-
-/// What is answered of a codeword without marks.
-pub(crate) const UNCHANGED: Fix = Fix {
-    errors: 0,
-    erased: 0,
-};
 
 /// 32 rows of a block by their values, and what is proposed for them. It has no rows: each is passed when it is
 /// answered, so that it may be anywhere.
@@ -98,8 +93,7 @@ impl<'a> RowGroup<'a> {
             return Some(fix);
         }
         if self.wrong[n] == 0 {
-            copy_row(row, word);
-            return Some(UNCHANGED);
+            return Some(take_row(row, word));
         }
         let fix = self.answer_unmarked(n, row, word)?;
         Some(fix)
@@ -136,11 +130,7 @@ impl<'a> RowGroup<'a> {
         ensures { MatchOption result (near_of 182 10 row.now (marks_of_row marks.now) ≡ None) (IsFix row.now (marks_of_row marks.now) word.new) }
     {
         if is_lost(marks) {
-            // The received bytes are copied though they don't count, as `decode_copy` leaves them in each row that
-            // fails: nothing of an earlier block stays, and a column in which they happen to be right is a codeword
-            // without a patch.
-            copy_row(row, word);
-            return None;
+            return answer_lost(row, marks, word);
         }
         let mut flags = [false; 182];
         marks.unpack(&mut flags);
@@ -159,6 +149,30 @@ pub(crate) fn is_lost(marks: &RowMarks) -> bool
     ensures { IsTrue result ↔ 10 < marked (marks_of_row marks.now) }
 {
     marks.count() > MOST_MARKED
+}
+
+/// Answers a codeword without marks, or a row that is believed to be one: it is its own answer.
+#[inline(always)]
+pub(crate) fn take_row(row: &[u8; 182], word: &mut [u8; 182]) -> Fix
+    ensures { IsAsReceived row.now (replicate 182 false) (record { bytes = word.new; fix = Some result }) }
+{
+    copy_row(row, word);
+    Fix {
+        errors: 0,
+        erased: 0,
+    }
+}
+
+/// Answers a lost row: no codeword is near it. The received bytes are copied though they don't count, as `decode_copy`
+/// leaves them in each row that fails: nothing of an earlier block stays, and a column in which they happen to be right
+/// is a codeword without a patch.
+#[inline(always)]
+pub(crate) fn answer_lost(row: &[u8; 182], marks: &RowMarks, word: &mut [u8; 182]) -> Option<Fix>
+    requires { 10 < marked (marks_of_row marks.now) }
+    ensures { MatchOption result (near_of 182 10 row.now (marks_of_row marks.now) ≡ None) (IsFix row.now (marks_of_row marks.now) word.new) }
+{
+    copy_row(row, word);
+    None
 }
 
 // Writes the codeword near a row without marks that no proposal is right for, by its syndromes. Most rows are answered

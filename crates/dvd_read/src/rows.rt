@@ -1,20 +1,17 @@
 //! The first pass: each received row is answered by the codeword near it, or it fails.
 //! The values of a row are all 0 for a codeword alone (`row_group`). They are found for 32 rows at once, in a vector for
-//! each power of alpha; row `n` of the 32 has lane `n` of each. In clauses `IsAnswer` says that a row is answered so, by
-//! its bytes and its marks.
-ghost use Rattle.std.specs.Prelude.{◌≡◌, ℕ, ◌+◌, ◌<◌, ◌≤◌, IsTrue, false, length, replicate, EachIndex};
+//! each power of alpha; row `n` of the 32 has lane `n` of each. In clauses `AreAnswersFrom` says that rows are answered
+//! so, by their bytes and their marks.
+ghost use Rattle.std.specs.Prelude.{◌≡◌, ℕ, ◌+◌, ◌<◌, ◌≤◌, IsTrue, false, length, EachIndex};
 ghost use Rattle.coding.specs.Field.{alpha, power};
 ghost use Rattle.coding.specs.Words.{value};
-ghost use Rattle.coding.specs.Filling.{marked};
-ghost use Rattle.dvd_capture.specs.Answers.{IsAnswer};
-ghost use Rattle.dvd_capture.specs.Parts.{marks_of_row, marks_rows, received_rows};
+ghost use Rattle.dvd_capture.specs.Parts.{marks_rows, received_rows};
 ghost use Rattle.dvd_read.specs.Parts.{AreAnswersFrom};
-ghost use Rattle.dvd_read.specs.Inner.Standing.{AreAnswersBefore, AreOwnFrom, AreAsReceivedBefore, AreAsReceivedFrom, IsAsReceived, top_of};
+ghost use Rattle.dvd_read.specs.Inner.Standing.{AreAnswersBefore, AreOwnFrom, AreAsReceivedBefore, AreAsReceivedFrom, top_of};
 ghost use Rattle.coding.specs.Product.{line, place};
 
 use crate::copying::copy_transposed;
-use crate::row_group::{RowGroup, UNCHANGED, is_lost};
-use dvd_capture::RowMarks;
+use crate::row_group::{RowGroup, answer_lost, is_lost, take_row};
 use dvd_capture::parts::{AnswerRow, ColumnAnswer, Marks, Received};
 use rs_code::Pi;
 use rs_lanes::{Thirds, any_of, are_zeros, row_values_by, transpose};
@@ -145,18 +142,9 @@ fn answer_lost_rows(
         if row_marks.is_clear() || !is_lost(row_marks) {
             return false;
         }
-        answer_lost(received.row(i), row_marks, answer);
+        answer.fix = answer_lost(received.row(i), row_marks, &mut answer.bytes);
     }
     true
-}
-
-// Answers a lost row: no codeword is near it. The received bytes are copied though they don't count, as `RowGroup` does
-// for each row that fails.
-fn answer_lost(row: &[u8; 182], marks: &RowMarks, answer: &mut AnswerRow)
-    requires { 10 < marked (marks_of_row marks.now) }
-    ensures { IsAnswer row.now (marks_of_row marks.now) answer.new }
-{
-    answer.set(row, None);
 }
 
 // Answers at most 32 rows, by the values of 32: of those from `start` on, or of the last 32 where fewer are left. In
@@ -198,14 +186,7 @@ fn take_unmarked(received: &Received, marks: &Marks, start: usize, piece: &mut [
         if !marks.is_clear(i) {
             return false;
         }
-        take_row(received.row(i), answer);
+        answer.fix = Some(take_row(received.row(i), &mut answer.bytes));
     }
     true
-}
-
-// Answers a row as it is.
-fn take_row(row: &[u8; 182], answer: &mut AnswerRow)
-    ensures { IsAsReceived row.now (replicate 182 false) answer.new }
-{
-    answer.set(row, Some(UNCHANGED));
 }

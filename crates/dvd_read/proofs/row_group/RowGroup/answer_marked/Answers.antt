@@ -6,10 +6,6 @@ use Rattle.dvd_capture.proofs.MarkLists.{length-marks_of}
 use Rattle.dvd_read.proofs.RowAnswers.{lost-none}
 use Rattle.dvd_read.proofs.row_group.RowGroup.answer_marked.Goals as goal
 
-pub returns-then-is_lost : goal.returns-then-is_lost
-returns-then-is_lost c =
-    lost-none c.args.row.now (marks_of_row c.args.marks.now) c.told-row (length-marks_of c.args.marks.now.bits) (c.is_lost.ensures.0 c.if-is_lost.true)
-
 pub returns-in_default : goal.returns-in_default
 returns-in_default c =
     lost-none c.args.row.now (marks_of_row c.args.marks.now) c.told-row (length-marks_of c.args.marks.now.bits)
