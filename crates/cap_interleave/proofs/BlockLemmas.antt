@@ -1,6 +1,12 @@
 -- Blocks that are marked whole, row by row.
-use Rattle.std.proofs.Common.{◌≡◌, ◌∙◌, ◌+◌, ◌*◌, ◌≤◌, ℕ, zero, suc, Bool, true, false, List, [], ◌++◌, length, refl, add-one, arith, length-append, length-drop, drop}
+use Rattle.std.proofs.Common.{◌≡◌, ◌∙◌, ◌+◌, ◌*◌, ◌≤◌, ℕ, zero, suc, Bool, true, false, List, [], ◌∷◌, ◌++◌, length, map, replicate, refl, add-one, arith, length-append, length-drop, drop}
+use Rattle.dvd_capture.specs.MarkBits.{is_other, mark_bytes, number_of_marks}
 use Rattle.cap_interleave.specs.Blocks.{block_written, lost_block, lost_row, lost_rows}
+
+-- the mark bytes of a row that is marked whole
+pub whole_bits : mark_bytes (map (is_other 0) (replicate 182 1)) ≡ replicate 22 255 ++ 252 ∷ []
+unfolding mark_bytes number_of_marks
+whole_bits = refl
 
 pub rows_none : lost_rows 0 ≡ []
 unfolding lost_rows

@@ -13,7 +13,7 @@ ghost use Rattle.cap_interleave.specs.Blocks.{block_written, lost_block, lost_ro
 ghost use Rattle.cap_interleave.specs.Inner.{BreaksSomeBlock, ChecksTo, GivesBlock, IsReadInto, fresh};
 
 use crate::ends::InterleaveEnd;
-use dvd_capture::Form;
+use dvd_capture::{Form, RowMarks};
 use dvd_ports::{Failed, NoMemory, Sink, Source, WriteFault, read_whole, write_whole};
 use std::alloc::{AllocError, Global};
 use std::marker::Model;
@@ -202,10 +202,9 @@ fn put_lost_row(block: &mut Vec<u8>) -> Result<(), AllocError>
     ensures row { OnOk result (block.new.items ≡ block.old.items ++ lost_row) }
     ensures len { OnOk result (vec_len block.new ≡ vec_len block.old + 205) }
 {
+    // None of these bytes is 0, so all places are marked.
+    let marks = RowMarks::where_not(0, &[1; 182]);
     block.extend_from_slice(&[0; 182])?;
-    // A bit for each of the 182 places, the first in the top bit of a byte: 22 bytes have 176 of them, and 252 has six
-    // bits set and the two spare ones, which are 0.
-    block.extend_from_slice(&[255; 22])?;
-    block.push(252)?;
+    block.extend_from_slice(marks.bits())?;
     Ok(())
 }

@@ -3,7 +3,8 @@
 ghost use Rattle.std.specs.Prelude.{◌≡◌, ◌<◌, ℕ, List};
 ghost use Rattle.cap_map.specs.declared.span.Span.{Span as MapSpan};
 ghost use Rattle.cap_mark.specs.Capture.{MarksWhole};
-ghost use Rattle.cap_mark.specs.Marks.{is_marked, mark_at, row_mark_bytes};
+ghost use Rattle.cap_mark.specs.Marks.{is_marked, row_mark_bytes};
+ghost use Rattle.dvd_capture.specs.MarkBits.{mark_at};
 
 /// Of the 23 mark bytes of a row, mark j, which is bit 7 - j % 8 of byte j / 8, is 1 exactly where the map doesn't call
 /// byte j of the row rescued, for each j below 182. `start` is the number in the capture of the row's first byte.
