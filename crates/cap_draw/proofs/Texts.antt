@@ -1,5 +1,5 @@
 -- Texts that are put one after the other.
-use Rattle.std.proofs.Common.{◌≡◌, ◌∙◌, ℕ, ◌+◌, ◌++◌, List, [], refl, ap, sym, add-one, append-nil, append_assoc}
+use Rattle.std.proofs.Common.{◌≡◌, ◌∙◌, ℕ, ◌+◌, ◌++◌, List, refl, ap, sym, add-one, append-nil, append_assoc}
 use Rattle.cap_draw.specs.Bars.{texts}
 
 -- two texts that are put at the end are a text

@@ -1,6 +1,6 @@
 -- The reading of a survey, and the writing of its picture.
 use Rattle.std.specs.Prelude.{◌≡◌, ℕ, true, false, List, Ok, Err}
-use Rattle.std.specs.Io.KnownBytes.{Appends, Consumes, IsAtEnd}
+use Rattle.dvd_ports.specs.Bytes.{Appends, Consumes, IsAtEnd}
 use Rattle.cap_survey.specs.Survey.{Ended, next_line, survey_of}
 use Rattle.cap_survey.specs.declared.fault.Fault.{Fault}
 use Rattle.cap_draw.specs.Picture.{picture}

@@ -1,5 +1,5 @@
 -- What the counts of a unit's bytes say.
-use Rattle.std.proofs.Common.{◌≡◌, ◌<◌, ◌≤◌, ◌==◌, ℕ, zero, suc, Bool, true, false, List, [], ◌∷◌, length, nat_lt, position, slice_index, refl, subst, sym, arith, None, Some}
+use Rattle.std.proofs.Common.{◌≡◌, ◌<◌, ◌≤◌, ◌==◌, ℕ, zero, suc, true, false, List, [], ◌∷◌, length, nat_lt, position, slice_index, subst, arith, None, Some}
 use Rattle.std.proofs.lemmas.Grind.{common_steps}
 use Rattle.std.specs.List.{list_all, position_or_len}
 use Rattle.cap_interleave.specs.Inner.{BuffersState, GivesBlock}

@@ -1,20 +1,20 @@
 -- The loop over units: what holds before each, and how it ends.
-use Rattle.std.proofs.Common.{◌≡◌, ◌∙◌, ◌⊎◌, inl, inr, ◌+◌, ◌-◌, ◌*◌, ◌^◌, ◌<◌, ◌≤◌, ℕ, zero, suc, false, List, [], ◌∷◌, ◌++◌, length, replicate, slice_index, slice_index_or, refl, ap, sym, subst, arith, lit<, add-one, append-nil, append_assoc, length-append, Ok, Err}
+use Rattle.std.proofs.Common.{◌≡◌, ◌∙◌, inl, inr, ◌+◌, ◌-◌, ◌*◌, ◌^◌, ◌<◌, ◌≤◌, ℕ, zero, suc, false, List, [], ◌∷◌, ◌++◌, length, slice_index, slice_index_or, refl, ap, sym, subst, arith, lit<, add-one, append-nil, length-append, Ok, Err}
 use Rattle.std.proofs.Math.Nat.{mul-suc, mul-zero}
 use Rattle.std.proofs.lemmas.Bool.{cases_lt}
 use Rattle.std.proofs.lemmas.List.{get_or-replicate}
-use Rattle.std.specs.Io.KnownBytes.{Appends, Consumes}
-use Rattle.dvd_ports.proofs.KnownLemmas.{Appends-none, Appends-then, Consumes-then}
+use Rattle.dvd_ports.specs.Bytes.{Appends}
+use Rattle.dvd_ports.proofs.KnownLemmas.{Appends-none, Appends-then, Consumes-none, Consumes-then}
 use Rattle.dvd_ports.proofs.StopLemmas.{fails_after, goes_on, unmoved}
 use Rattle.dvd_ports.specs.Causes.{HasFailed, HasGoneOn}
 use Rattle.dvd_ports.specs.Seen.{Seen}
 use Rattle.dvd_ports.specs.Whole.{AppendsPrefix}
 use Rattle.cap_interleave.specs.Blocks.{CaptureBytes, Task, capture_block, unit_bytes, units_of}
 use Rattle.cap_interleave.specs.Inner.{AreReadTo, BuffersState, ChecksTo, EndsBroken, GivesBlock, HasFailedAt, IsUnitInterleaved, SomeCame, filled_blocks, fresh, task_of}
-use Rattle.cap_interleave.specs.Interleaved.{AreDue, EndsInterleave, Gives, HasFailedWithin, HasGiven, HaveSome, IsCutWithin, IsFirstShort, IsInterleaved, Writes}
+use Rattle.cap_interleave.specs.Interleaved.{AreDue, EndsInterleave, Gives, HasFailedWithin, HasGiven, HaveSome, IsInterleaved, Writes}
 use Rattle.cap_interleave.specs.declared.ends.InterleaveEnd.{InterleaveEnd}
 use Rattle.cap_interleave.specs.declared.ends.InterleaveEnd.TheVariants.{Done, Long, ReadFault, Short, WriteFault}
-use Rattle.cap_interleave.proofs.StepLemmas.{Consumes-none, IsStepped, Stands, block_before, stepped}
+use Rattle.cap_interleave.proofs.StepLemmas.{IsStepped, Stands, block_before, stepped}
 use Rattle.cap_interleave.proofs.UnitLemmas.{due_kept, then, unit_is, units_kept, units_more, units_none}
 
 -- So many blocks of each capture were read and written.

@@ -1,5 +1,5 @@
 -- Blocks found again among those that were written.
-use Rattle.std.proofs.Common.{◌≡◌, ◌∙◌, inl, inr, ◌+◌, ◌-◌, ◌*◌, ◌<◌, ◌≤◌, ℕ, zero, suc, Bool, true, false, List, [], ◌∷◌, ◌++◌, length, take, drop, map, replicate, refl, ap, sym, subst, arith, append-nil, length-append, length-drop}
+use Rattle.std.proofs.Common.{◌≡◌, ◌∙◌, inl, inr, ◌+◌, ◌*◌, ◌<◌, ◌≤◌, ℕ, zero, suc, Bool, true, false, List, ◌∷◌, ◌++◌, length, drop, map, replicate, refl, ap, sym, subst, arith, append-nil, length-append, length-drop}
 use Rattle.std.proofs.Math.Nat.{mul-le-mul_left, mul-suc, mul-zero, mul_comm}
 use Rattle.std.proofs.lemmas.Bool.{cases_lt}
 use Rattle.std.proofs.lemmas.List.{drop_all, length-take-le}
@@ -7,7 +7,7 @@ use Rattle.std.specs.List.{range_with_len}
 use Rattle.coding.specs.Recording.{record_at}
 use Rattle.dvd_capture.proofs.Fetching.{record_at-lt}
 use Rattle.dvd_capture.specs.Captured.{captured_marks, record_marks}
-use Rattle.dvd_capture.specs.MarkBits.{mark_at, marks_of}
+use Rattle.dvd_capture.specs.MarkBits.{marks_of}
 use Rattle.dvd_capture.specs.declared.form.Form.TheVariants.{Marked}
 use Rattle.cap_interleave.specs.Blocks.{CaptureBytes, Task, capture_block, block_written, lost_block, lost_row, lost_rows, unit_bytes, units_of}
 use Rattle.cap_interleave.specs.Laws.{BlocksAreInMergeOrder, LostBlockIsMarkedWhole}

@@ -1,5 +1,5 @@
 -- The blocks of a unit, read one after the other.
-use Rattle.std.proofs.Common.{◌≡◌, ◌≢◌, ◌∙◌, inl, inr, ◌+◌, ◌*◌, ◌<◌, ◌≤◌, ℕ, zero, suc, nat_lt, if◌then◌else◌, List, [], ◌++◌, length, slice_index, slice_index_or, slice_set, refl, ap, sym, subst, arith, add-one}
+use Rattle.std.proofs.Common.{◌≡◌, ◌≢◌, ◌∙◌, inl, inr, ◌+◌, ◌<◌, ℕ, zero, suc, nat_lt, if◌then◌else◌, List, [], ◌++◌, length, slice_index, slice_index_or, slice_set, refl, ap, sym, subst, arith, add-one}
 use Rattle.std.proofs.lemmas.Bool.{cases_lt, le-ltb, lt-ltb}
 use Rattle.std.proofs.lemmas.List.{get_or-set_other, get_or-set_same, length-set}
 use Rattle.dvd_ports.specs.Seen.{Seen}

@@ -1,9 +1,9 @@
 -- One more block of one capture.
-use Rattle.std.proofs.Common.{◌≡◌, ◌∙◌, ◌⊎◌, inl, inr, ◌+◌, ◌-◌, ◌*◌, ◌<◌, ◌≤◌, ℕ, suc, List, [], ◌++◌, length, take, drop, refl, ap, sym, subst, arith, append-nil, length-append, length-drop, Option, None, Some}
+use Rattle.std.proofs.Common.{◌≡◌, ◌∙◌, ◌⊎◌, inl, inr, ◌+◌, ◌*◌, ◌<◌, ◌≤◌, ℕ, suc, List, [], ◌++◌, length, take, drop, ap, sym, subst, arith, append-nil, length-append, length-drop}
 use Rattle.std.proofs.Math.Nat.{mul-le-mul_left, mul-suc}
 use Rattle.std.proofs.Math.Seq.{drop-append_seam}
 use Rattle.std.proofs.lemmas.List.{drop-append-le, drop_all, take-append-le, take_all}
-use Rattle.std.specs.Io.KnownBytes.{Consumes}
+use Rattle.dvd_ports.specs.Bytes.{Consumes}
 use Rattle.dvd_ports.proofs.KnownLemmas.{Consumes-then}
 use Rattle.dvd_ports.proofs.StopLemmas.{ends_after, goes_on}
 use Rattle.dvd_ports.specs.Causes.{HasGoneOn}
@@ -11,11 +11,6 @@ use Rattle.dvd_ports.specs.Seen.{Seen}
 use Rattle.cap_interleave.specs.Blocks.{capture_block}
 use Rattle.cap_interleave.specs.Inner.{GivesBlock}
 use Rattle.cap_interleave.specs.Interleaved.{HasGiven}
-
--- where nothing happens, no bytes are consumed
-pub Consumes-none : (a : Option (List ℕ)) → Consumes a a []
-Consumes-none None = tt
-Consumes-none (Some bytes) = refl
 
 -- the block that comes after whole blocks, and one that comes after the end
 pub block_now : (size k : ℕ) (came own : List ℕ) → length came ≡ size * k → length own ≤ size → capture_block size k (came ++ own) ≡ own

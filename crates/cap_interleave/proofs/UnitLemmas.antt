@@ -1,5 +1,5 @@
 -- One more block of each capture.
-use Rattle.std.proofs.Common.{◌≡◌, ◌∙◌, ◌+◌, ◌*◌, ◌<◌, ◌≤◌, ℕ, zero, suc, List, [], ◌++◌, length, refl, ap, arith, length-append}
+use Rattle.std.proofs.Common.{◌≡◌, ◌∙◌, ◌<◌, ℕ, zero, suc, [], ◌++◌, refl, ap, arith, length-append}
 use Rattle.cap_interleave.specs.Blocks.{CaptureBytes, Task, capture_block, block_written, unit_bytes, units_of}
 use Rattle.cap_interleave.specs.Inner.{filled_blocks}
 use Rattle.cap_interleave.specs.Interleaved.{AreDue}

@@ -1,42 +1,43 @@
 -- Captures of the same number of blocks each, without a fault.
-use Rattle.std.proofs.Common.{◌≡◌, ◌∙◌, inl, inr, ◌+◌, ◌-◌, ◌*◌, ◌^◌, ◌<◌, ◌≤◌, ℕ, suc, List, [], ◌++◌, length, slice_index_or, refl, ap, sym, subst, arith, append-nil, length-append, Option, Some, None}
+use Rattle.std.proofs.Common.{◌≡◌, ◌∙◌, inl, inr, ◌*◌, ◌<◌, ◌≤◌, ℕ, suc, List, [], ◌++◌, length, slice_index_or, refl, ap, sym, subst, arith, append-nil, length-append, Option, Some, None}
 use Rattle.std.proofs.Math.Nat.{mul-le-mul_left, mul-suc}
 use Rattle.std.proofs.lemmas.Bool.{cases_lt}
-use Rattle.std.specs.Io.KnownBytes.{Appends, Consumes, IsAtEnd}
+use Rattle.std.specs.Io.KnownBytes.{Consumes as LosesKnown, IsAtEnd as IsKnownEnd}
+use Rattle.dvd_ports.specs.Bytes.{Appends}
 use Rattle.dvd_ports.specs.Seen.{Seen}
 use Rattle.cap_interleave.specs.Blocks.{CaptureBytes, Task, capture_block, units_of}
 use Rattle.cap_interleave.specs.Interleaved.{HasGiven, HaveSome, IsInterleaved}
-use Rattle.cap_interleave.specs.Laws.{IsFaultless, WholeCapturesComeWhole}
-use Rattle.cap_interleave.specs.declared.ends.InterleaveEnd.{InterleaveEnd}
+use Rattle.cap_interleave.specs.Laws.{WholeCapturesComeWhole}
 use Rattle.cap_interleave.specs.declared.ends.InterleaveEnd.TheVariants.{Done, Long, ReadFault, Short, WriteFault}
 use Rattle.cap_interleave.proofs.LoopLemmas.{any}
 use Rattle.cap_interleave.proofs.UnitLemmas.{units_kept}
 
 -- what came of known bytes is a front of them
-prefix : (old new : Option (List ℕ)) (capture came : List ℕ) → old ≡ Some capture → Consumes old new came → (left : List ℕ) × (new ≡ Some left) × (capture ≡ came ++ left)
-prefix old None capture came said reads = let no : Consumes (Some capture) None came = subst (λ o. Consumes o None came) said reads in absurd no
-prefix old (Some left) capture came said reads = (left, refl, subst (λ o. Consumes o (Some left) came) said reads)
+prefix : (old new : Option (List ℕ)) (capture came : List ℕ) → old ≡ Some capture → LosesKnown old new came
+    → (left : List ℕ) × (new ≡ Some left) × (capture ≡ came ++ left)
+prefix old None capture came said reads = let no : LosesKnown (Some capture) None came = subst (λ o. LosesKnown o None came) said reads in absurd no
+prefix old (Some left) capture came said reads = (left, refl, subst (λ o. LosesKnown o (Some left) came) said reads)
 
-none_after : (new : Option (List ℕ)) (left : List ℕ) → new ≡ Some left → IsAtEnd new → left ≡ []
-none_after new left is end = subst IsAtEnd is end
+none_after : (new : Option (List ℕ)) (left : List ℕ) → new ≡ Some left → IsKnownEnd new → left ≡ []
+none_after new left is end = subst IsKnownEnd is end
 
 -- a capture that gave less than it was asked for gave all
-all_came : (size m : ℕ) (capture came : List ℕ) (old new : Seen) → old.bytes ≡ Some capture → HasGiven size m came old new → length came < size * m → came ≡ capture
+all_came : (size m : ℕ) (capture came : List ℕ) (old new : Seen) → old.bytes.left ≡ Some capture → HasGiven size m came old new → length came < size * m → came ≡ capture
 all_came size m capture came old new said given few =
-    let parts = prefix old.bytes new.bytes capture came said given.reads in
+    let parts = prefix old.bytes.left new.bytes.left capture came said given.reads.loses in
     elim given.answers [
       | inl (whole, on) ↦ absurd (omega (arith, whole, few))
-      | inr (fewer, end, met) ↦ sym (parts.2 ∙ ap (λ l. came ++ l) (none_after new.bytes parts.0 parts.1 end) ∙ append-nil came)
+      | inr (fewer, end, met) ↦ sym (parts.2 ∙ ap (λ l. came ++ l) (none_after new.bytes.left parts.0 parts.1 end) ∙ append-nil came)
     ]
 
 -- and never more
-no_more : (size m : ℕ) (capture came : List ℕ) (old new : Seen) → old.bytes ≡ Some capture → HasGiven size m came old new → length came ≤ length capture
+no_more : (size m : ℕ) (capture came : List ℕ) (old new : Seen) → old.bytes.left ≡ Some capture → HasGiven size m came old new → length came ≤ length capture
 no_more size m capture came old new said given =
-    let parts = prefix old.bytes new.bytes capture came said given.reads in
+    let parts = prefix old.bytes.left new.bytes.left capture came said given.reads.loses in
     omega (arith, ap length parts.2, length-append came parts.0)
 
 module _ (S : Type 0) (seen : S → Seen) (task : Task) (olds news : List S) (captures : CaptureBytes) (n : ℕ)
-    (said : (c : ℕ) (d : S) → c < task.count → (seen (slice_index_or olds c d)).bytes ≡ Some (captures c))
+    (said : (c : ℕ) (d : S) → c < task.count → (seen (slice_index_or olds c d)).bytes.left ≡ Some (captures c))
     (sizes : (c : ℕ) → c < task.count → length (captures c) ≡ task.size * n) (enough : task.count ≤ length olds) where
   -- no capture has a byte of a unit from the n-th on
   none_past : (m k : ℕ) (came : CaptureBytes) → ((c : ℕ) (d : S) → c < task.count → HasGiven task.size m (came c) (seen (slice_index_or olds c d)) (seen (slice_index_or news c d)))

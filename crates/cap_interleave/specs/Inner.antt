@@ -1,7 +1,7 @@
 -- What only the private functions of this crate promise. Of public contracts, only those of the buffers cite this page,
 -- and no law does.
 use Rattle.std.specs.Prelude.{◌≡◌, ◌⊎◌, ℕ, zero, suc, ◌+◌, ◌*◌, ◌<◌, ◌≤◌, Bool, false, List, [], ◌++◌, length, replicate, slice_index, slice_index_or, slice_set, Result, Ok, Err}
-use Rattle.std.specs.Io.KnownBytes.{Appends, Consumes, IsAtEnd}
+use Rattle.dvd_ports.specs.Bytes.{Appends, Consumes, IsAtEnd}
 use Rattle.cap_interleave.specs.Blocks.{CaptureBytes, Task, block_written}
 use Rattle.cap_interleave.specs.declared.ends.InterleaveEnd.{InterleaveEnd}
 use Rattle.cap_interleave.specs.declared.ends.InterleaveEnd.TheVariants.{Done, ReadFault, Short, WriteFault}

@@ -1,6 +1,6 @@
 -- What holds of blocks in turn.
 use Rattle.std.specs.Prelude.{◌≡◌, ℕ, ◌*◌, ◌<◌, ◌≤◌, ◌^◌, ◌-◌, true, List, length, replicate, slice_index_or, Some}
-use Rattle.std.specs.Io.KnownBytes.{Appends}
+use Rattle.dvd_ports.specs.Bytes.{Appends}
 use Rattle.cap_interleave.specs.Blocks.{CaptureBytes, Task, capture_block, lost_block, units_of}
 use Rattle.cap_interleave.specs.Interleaved.{IsInterleaved}
 use Rattle.cap_interleave.specs.declared.ends.InterleaveEnd.{InterleaveEnd}
@@ -31,6 +31,6 @@ IsFaultless end = Unit {0}
 abbrev pub WholeCapturesComeWhole : {S : Type 0} → (S → Seen) → Type 0
 WholeCapturesComeWhole {S} seen =
     (task : Task) (olds news : List S) (old new : Seen) (end : InterleaveEnd) (captures : CaptureBytes) (n : ℕ)
-    → ((c : ℕ) (d : S) → c < task.count → (seen (slice_index_or olds c d)).bytes ≡ Some (captures c))
+    → ((c : ℕ) (d : S) → c < task.count → (seen (slice_index_or olds c d)).bytes.left ≡ Some (captures c))
     → ((c : ℕ) → c < task.count → length (captures c) ≡ task.size * n) → 0 < task.size → 0 < task.count → task.count ≤ length olds → n < 2 ^ 32 - 1
     → IsInterleaved seen task olds news old new end → IsFaultless end → (end ≡ Done) × Appends old.bytes new.bytes (units_of task captures n)

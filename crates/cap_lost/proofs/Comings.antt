@@ -1,12 +1,12 @@
 -- What a reader has of a report that is read from a source.
-use Rattle.std.proofs.Common.{◌≡◌, ◌∙◌, inl, inr, ℕ, List, [], ◌++◌, Ok, Err, Result, Option, None, Some, refl, ap, subst, sym, append_assoc, append-nil}
+use Rattle.std.proofs.Common.{◌≡◌, ◌∙◌, inl, inr, ℕ, List, [], ◌++◌, Ok, Err, Result, ap, subst, sym, append_assoc, append-nil}
 use Rattle.std.specs.Prelude.{IfErr, IfOk}
-use Rattle.std.specs.Io.KnownBytes.{Consumes, IsAtEnd}
+use Rattle.dvd_ports.specs.Bytes.{Consumes, IsAtEnd}
 use Rattle.dvd_layout.specs.declared.layout.Layout.{Layout}
 use Rattle.dvd_layout.specs.declared.layout.Zones.{Zones}
 use Rattle.dvd_ports.specs.Causes.{HasGoneOn, HasMetEnd}
 use Rattle.dvd_ports.specs.Seen.{Seen}
-use Rattle.dvd_ports.proofs.KnownLemmas.{Consumes-then}
+use Rattle.dvd_ports.proofs.KnownLemmas.{Consumes-none, Consumes-then}
 use Rattle.dvd_ports.proofs.StopLemmas.{ends_after, goes_on as gone_on, unmoved}
 use Rattle.cap_lost.specs.Inner.{HasCome, IsReaderSound, StopsAs, goes_on}
 use Rattle.cap_lost.specs.Lost.{losses_in}
@@ -17,17 +17,9 @@ use Rattle.cap_lost.specs.declared.fault.ReportFault.{ReportFault}
 use Rattle.cap_lost.specs.declared.fault.ReportFault.TheVariants.{NoMemory, ReadFault, Rule}
 use Rattle.cap_lost.specs.declared.reader.Reader.{Reader}
 
--- no byte came
-none_taken : (s : Seen) → Consumes s.bytes s.bytes []
-none_taken s = go s.bytes
-  where
-    go : (b : Option (List ℕ)) → Consumes b b []
-    go None = tt
-    go (Some bytes) = refl
-
 module _ (layout : Layout) (zones : Zones) (old : Seen) where
   pub none_came : (reader : Reader) → ((text : List ℕ) → goes_on reader text ≡ losses_of layout zones text) → IsReaderSound reader → HasCome layout zones old old reader
-  none_came reader begins sound = record { text = []; taken = none_taken old; on = unmoved old; says = λ rest. sym (begins rest); sound = sound }
+  none_came reader begins sound = record { text = []; taken = Consumes-none old.bytes; on = unmoved old; says = λ rest. sym (begins rest); sound = sound }
 
   module _ (mid new : Seen) (reader : Reader) (come : HasCome layout zones old mid reader) where
     -- a piece more

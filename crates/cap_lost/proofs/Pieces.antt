@@ -1,7 +1,7 @@
 -- A text that is written in pieces.
 use Rattle.std.proofs.Common.{◌≡◌, ◌∙◌, ℕ, List, [], ◌∷◌, ◌++◌, length, take, drop, Result, Ok, Err, refl, ap, sym, subst, arith, append_assoc, append-nil, take-append-drop}
 use Rattle.std.specs.Prelude.{IsErr}
-use Rattle.std.specs.Io.KnownBytes.{Appends}
+use Rattle.dvd_ports.specs.Bytes.{Appends}
 use Rattle.dvd_ports.specs.Causes.{HasFailed, HasGoneOn}
 use Rattle.dvd_ports.specs.Seen.{Seen}
 use Rattle.dvd_ports.specs.Whole.{AppendsPrefix, IsWritten}

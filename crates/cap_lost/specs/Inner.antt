@@ -1,6 +1,6 @@
 -- What only the private functions of this crate promise. No public contract cites this page.
 use Rattle.std.specs.Prelude.{◌≡◌, ℕ, ◌+◌, ◌*◌, ◌≤◌, ◌<◌, ◌^◌, Option, Some, None, List, ◌++◌, length, Result, Err}
-use Rattle.std.specs.Io.KnownBytes.{Appends, Consumes}
+use Rattle.dvd_ports.specs.Bytes.{Appends, Consumes}
 use Rattle.cap_map.specs.Fields.{line_length, lines_of}
 use Rattle.dvd_layout.specs.declared.layout.Layout.{Layout}
 use Rattle.dvd_layout.specs.declared.layout.Zones.{Zones}

@@ -1,6 +1,6 @@
 -- What a report that is read from a source says.
 use Rattle.std.specs.Prelude.{◌≡◌, ◌⊎◌, ℕ, ◌++◌, List, Ok, Err}
-use Rattle.std.specs.Io.KnownBytes.{Consumes, IsAtEnd}
+use Rattle.dvd_ports.specs.Bytes.{Consumes, IsAtEnd}
 use Rattle.dvd_layout.specs.declared.layout.Layout.{Layout}
 use Rattle.dvd_layout.specs.declared.layout.Zones.{Zones}
 use Rattle.dvd_ports.specs.Causes.{HasFailed, HasGoneOn, HasMetEnd}

@@ -4,7 +4,7 @@
 ghost use Rattle.std.specs.Prelude.{◌≡◌, ◌+◌, ◌*◌, ◌≤◌, ◌<◌, ◌^◌, ◌++◌, [], ◌∷◌, length, true, IfOk, OnOk, OnErr};
 ghost use Rattle.std.specs.Fmt.{digit_glyph};
 ghost use Rattle.arrayvec.specs.ArrayVec.{array_vec_len};
-ghost use Rattle.std.specs.Io.KnownBytes.{Appends};
+ghost use Rattle.dvd_ports.specs.Bytes.{Appends};
 ghost use Rattle.dvd_ports.specs.Causes.{HasCause};
 ghost use Rattle.dvd_ports.specs.Whole.{AppendsPrefix, IsWritten};
 ghost use Rattle.dvd_report.specs.Lines.{hexadecimal};

@@ -1,6 +1,6 @@
 -- The lines of reports that several commands have, and the status that goes with the last.
 use Rattle.std.specs.Prelude.{◌≡◌, ◌⊎◌, ℕ, List, codes}
-use Rattle.std.specs.Io.KnownBytes.{Appends}
+use Rattle.dvd_ports.specs.Bytes.{Appends}
 use Rattle.cap_top.specs.declared.status.Status.{Status}
 use Rattle.cap_top.specs.declared.status.Status.TheVariants as status
 use Rattle.dvd_words.specs.declared.fault.WordsFault.{WordsFault}

@@ -27,7 +27,7 @@ end_of_bytes bytes = ends.Short (length bytes / 2366) (length bytes % 2366)
 -- marks, and it was read to its end. Line and status are those of what was left in a last frame that is cut, or of
 -- none.
 abbrev pub MarksAll : List Span → Streams → Streams → LoopEnd → Type 0
-MarksAll spans old new end = (bytes : List ℕ) → old.source.bytes ≡ Some bytes → IsFaultless end → length bytes < 2366 * (2 ^ 32 - 1)
+MarksAll spans old new end = (bytes : List ℕ) → old.source.bytes.left ≡ Some bytes → IsFaultless end → length bytes < 2366 * (2 ^ 32 - 1)
     → (end ≡ end_of_bytes bytes) × HaveMoved old new bytes (marked_capture spans bytes) (closing_line (end_of_bytes bytes))
 
 -- The streams have reached a run by these spans over some bytes, those of the source where they are known. Each

@@ -1,8 +1,7 @@
 -- Recording frames (ECMA-267, 19) as they were captured. A frame has thirteen recorded rows, one after the other.
 use Rattle.std.specs.Prelude.{◌≡◌, ℕ, ◌*◌, ◌<◌, Bool, List, length, map, take}
 use Rattle.std.specs.List.{range_with_len}
-use Rattle.std.specs.Io.KnownBytes.{Consumes, IsAtEnd}
-use Rattle.std.specs.declared.option.Option.{Option}
+use Rattle.dvd_ports.specs.Bytes.{Bytes, Consumes, IsAtEnd}
 use Rattle.dvd_capture.specs.Captured.{marks_in, record_of, record_size}
 use Rattle.dvd_capture.specs.declared.form.Form.{Form}
 
@@ -23,14 +22,14 @@ frame_in form bytes = record {
 }
 
 -- Ours: a source lost the bytes of one frame, and this is the frame
-pub record CapturesFrame (form : Form) (old new : Option (List ℕ)) (frame : Frame) : Type 0 where
+pub record CapturesFrame (form : Form) (old new : Bytes) (frame : Frame) : Type 0 where
   pub bytes : List ℕ
   pub size : length bytes ≡ frame_size form
   pub taken : Consumes old new bytes
   pub frame_is : frame ≡ frame_in form bytes
 
 -- Ours: a source lost so many bytes, fewer than a frame has, and has none left
-pub record FrameEndsAfter (form : Form) (old new : Option (List ℕ)) (count : ℕ) : Type 0 where
+pub record FrameEndsAfter (form : Form) (old new : Bytes) (count : ℕ) : Type 0 where
   pub bytes : List ℕ
   pub size : length bytes ≡ count
   pub taken : Consumes old new bytes

@@ -1,9 +1,9 @@
 -- A block as it is fetched: where the record of each row comes in it, and what the bytes read say of the block.
-use Rattle.std.proofs.Common.{◌≡◌, ◌≢◌, ◌⊎◌, ◌∙◌, ℕ, ◌+◌, ◌<◌, ◌≤◌, ◌==◌, Bool, true, false, List, [], ◌++◌, length, set, take, drop, inl, inr, refl, sym, ap, subst, arith, Option, length-drop}
+use Rattle.std.proofs.Common.{◌≡◌, ◌≢◌, ◌⊎◌, ◌∙◌, ℕ, ◌+◌, ◌<◌, ◌≤◌, ◌==◌, Bool, true, false, List, [], ◌++◌, length, set, take, drop, inl, inr, refl, sym, ap, subst, arith, length-drop}
 use Rattle.std.proofs.lemmas.Bool.Decides.{eqb_tells, nat_tests}
 use Rattle.std.proofs.Math.Seq.{drop-append_seam}
 use Rattle.std.proofs.lemmas.List.{take_all, take-append-le, drop-append-le, get_or-set_same, get_or-set_other}
-use Rattle.std.specs.Io.KnownBytes.{Consumes}
+use Rattle.dvd_ports.specs.Bytes.{Bytes, Consumes}
 use Rattle.coding.specs.Product.{line}
 use Rattle.coding.specs.Recording.{record_at, row_at}
 use Rattle.dvd_capture.specs.Answers.{marks_line}
@@ -101,7 +101,7 @@ sized-marks Marked sized bytes m = refl
 sized-marks Listed sized bytes m = absurd (sized refl)
 
 -- all bytes of a block came
-pub all_fetched : (form : Form) → HasSize form → (old now : Option (List ℕ)) (rows : List (List ℕ)) (marks : List (List Bool)) (count : ℕ) (bytes : List ℕ)
+pub all_fetched : (form : Form) → HasSize form → (old now : Bytes) (rows : List (List ℕ)) (marks : List (List Bool)) (count : ℕ) (bytes : List ℕ)
     → length bytes ≡ block_size form → block_size form ≤ count → Consumes old now (take count bytes)
     → (rows ≡ captured_rows form bytes) × (marks ≡ captured_marks form bytes) → Captures form old now rows marks
 all_fetched form sized old now rows marks count bytes size all consumed are = record {

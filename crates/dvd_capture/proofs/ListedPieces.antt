@@ -1,9 +1,9 @@
 -- The runs of a listed unit while their fields come in pieces.
-use Rattle.std.proofs.Common.{◌≡◌, ◌⊎◌, ◌∙◌, ℕ, ◌+◌, ◌*◌, ◌<◌, ◌≤◌, ◌&&◌, ◌||◌, nat_le, nat_lt, Bool, List, [], ◌++◌, length, take, drop, get_or, slice_index, Option, None, Some, Result, Ok, Err, inl, inr, refl, sym, ap, subst, arith, append_assoc, append-nil, length-append, length-take}
+use Rattle.std.proofs.Common.{◌≡◌, ◌⊎◌, ◌∙◌, ℕ, ◌+◌, ◌*◌, ◌<◌, ◌≤◌, ◌&&◌, ◌||◌, nat_le, nat_lt, Bool, List, [], ◌++◌, length, take, drop, get_or, slice_index, Result, Ok, Err, inl, inr, sym, ap, subst, arith, append_assoc, append-nil, length-append, length-take}
 use Rattle.std.proofs.Math.Seq.{take-add}
 use Rattle.std.proofs.lemmas.Bool.Decides.{leb_tells}
 use Rattle.std.proofs.lemmas.List.{get_or-drop, get_or-take, length-drop, take-append-drop, take-append-le, take_all}
-use Rattle.std.specs.Io.KnownBytes.{Consumes}
+use Rattle.dvd_ports.specs.Bytes.{Bytes, Consumes}
 use Rattle.std.specs.Result.{IsErrAnd}
 use Rattle.dvd_ports.proofs.KnownLemmas.{Consumes-then}
 use Rattle.dvd_ports.specs.Causes.{HasGoneOn}
@@ -153,13 +153,13 @@ length-grow more fields own most is within = omega (arith, ap length is, length-
 
 -- FIELDS BY PIECES. After the bytes of the rows the number of runs came, and then these fields, of which so many runs
 -- are whole.
-pub record TakesFields (rows : List ℕ) (count : ℕ) (fields : List ℕ) (mark : ℕ → Bool) (taken : Taken) (old new : Option (List ℕ)) : Type 0 where
+pub record TakesFields (rows : List ℕ) (count : ℕ) (fields : List ℕ) (mark : ℕ → Bool) (taken : Taken) (old new : Bytes) : Type 0 where
   pub number : List ℕ
   pub consumed : Consumes old new (number ++ fields)
   pub has : HasFields (rows ++ number) count fields mark taken
 
 -- at first there are none
-pub fields-begun : (rows : List ℕ) (mark : ℕ → Bool) → AreRows rows mark → (old new : Option (List ℕ)) (count : ℕ) → TakesField old new count → count ≤ 18_928
+pub fields-begun : (rows : List ℕ) (mark : ℕ → Bool) → AreRows rows mark → (old new : Bytes) (count : ℕ) → TakesField old new count → count ≤ 18_928
     → (fields : List ℕ) → fields ≡ [] → TakesFields rows count fields mark (record { runs = 0; end = 0 }) old new
 fields-begun rows mark are old new count field few fields none =
     let first = number-taken rows mark are old new count field few in
@@ -174,7 +174,7 @@ fields-begun rows mark are old new count field few fields none =
       };
     })
 
-module _ (rows : List ℕ) (count : ℕ) (fields : List ℕ) (mark : ℕ → Bool) (taken : Taken) (old mid : Option (List ℕ)) (t : TakesFields rows count fields mark taken old mid) (new : Option (List ℕ)) where
+module _ (rows : List ℕ) (count : ℕ) (fields : List ℕ) (mark : ℕ → Bool) (taken : Taken) (old mid : Bytes) (t : TakesFields rows count fields mark taken old mid) (new : Bytes) where
   -- more fields come
   pub fields-come : (own : List ℕ) → Consumes mid new own → Consumes old new (t.number ++ (fields ++ own))
   fields-come own more = subst (Consumes old new) (append_assoc t.number fields own) (Consumes-then old mid new (t.number ++ fields) own t.consumed more)
@@ -222,15 +222,15 @@ module _ (rows : List ℕ) (count : ℕ) (fields : List ℕ) (mark : ℕ → Boo
 
 -- What is known of these fields before their runs are taken: they came, they are no more than those of so many runs,
 -- and the runs that were taken are their first.
-pub record AreFieldsMore (rows : List ℕ) (count : ℕ) (fields : List ℕ) (mark : ℕ → Bool) (taken : Taken) (old new : Option (List ℕ)) : Type 0 where
+pub record AreFieldsMore (rows : List ℕ) (count : ℕ) (fields : List ℕ) (mark : ℕ → Bool) (taken : Taken) (old new : Bytes) : Type 0 where
   pub number : List ℕ
   pub came : Consumes old new (number ++ fields)
   pub few : length fields ≤ 4 * count
   pub first : HasRuns ((rows ++ number) ++ take (4 * taken.runs) fields) count taken.runs taken.end mark
 
 -- the fields with more that came
-pub fields-after : (rows : List ℕ) (count : ℕ) (fields : List ℕ) (mark : ℕ → Bool) (taken : Taken) (old mid : Option (List ℕ)) → TakesFields rows count fields mark taken old mid
-    → (new : Option (List ℕ)) (all own : List ℕ) → all ≡ fields ++ own → length fields + length own ≤ 4 * count → Consumes mid new own → AreFieldsMore rows count all mark taken old new
+pub fields-after : (rows : List ℕ) (count : ℕ) (fields : List ℕ) (mark : ℕ → Bool) (taken : Taken) (old mid : Bytes) → TakesFields rows count fields mark taken old mid
+    → (new : Bytes) (all own : List ℕ) → all ≡ fields ++ own → length fields + length own ≤ 4 * count → Consumes mid new own → AreFieldsMore rows count all mark taken old new
 fields-after rows count fields mark taken old mid t new all own is within more = record {
   number = t.number;
   came = subst (λ l. Consumes old new (t.number ++ l)) (sym is) (fields-come rows count fields mark taken old mid t new own more);
@@ -239,7 +239,7 @@ fields-after rows count fields mark taken old mid t new all own is within more =
 }
 
 -- a field that breaks a rule
-pub stopped-at-field : (rows number fields : List ℕ) (old new : Option (List ℕ)) → Consumes old new (number ++ fields) → (answer : FetchAnswer) → BreaksIn ((rows ++ number) ++ fields) answer
+pub stopped-at-field : (rows number fields : List ℕ) (old new : Bytes) → Consumes old new (number ++ fields) → (answer : FetchAnswer) → BreaksIn ((rows ++ number) ++ fields) answer
     → IsStopped rows old new answer
 stopped-at-field rows number fields old new came Full breaks = absurd breaks
 stopped-at-field rows number fields old new came End breaks = absurd breaks
@@ -263,8 +263,3 @@ bad-counts (BadMarks at) old new is steady = steady
 pub err-cause : {A : Type 0} (answer : Result A FetchAnswer) (error : FetchAnswer) (old new : Seen) → IsErrAnd answer (λ e. e ≡ error) → FetchCounts error old new → HasFetchCause answer old new
 err-cause (Ok value) error old new is counts = absurd is
 err-cause (Err e) error old new is counts = subst (λ a. FetchCounts a old new) (sym is) counts
-
--- nothing was taken
-pub Consumes-none : (now : Option (List ℕ)) → Consumes now now []
-Consumes-none None = tt
-Consumes-none (Some bytes) = refl

@@ -1,8 +1,8 @@
 -- The fields of a listed unit as a source gives them.
-use Rattle.std.proofs.Common.{◌≡◌, ◌∙◌, ℕ, ◌<◌, ◌≤◌, Bool, List, ◌++◌, length, Option, Result, Ok, Err, refl, sym, subst, arith, length-append, append_assoc}
+use Rattle.std.proofs.Common.{◌≡◌, ◌∙◌, ℕ, ◌<◌, ◌≤◌, Bool, List, ◌++◌, length, Result, Ok, Err, refl, sym, subst, arith, length-append, append_assoc}
 use Rattle.std.specs.Int.{from_be_bytes, w16}
 use Rattle.std.specs.Result.{IfErr, IsErrAnd}
-use Rattle.std.specs.Io.KnownBytes.{Consumes}
+use Rattle.dvd_ports.specs.Bytes.{Bytes, Consumes}
 use Rattle.byteorder.specs.Endian.{big_number}
 use Rattle.dvd_ports.proofs.KnownLemmas.{Consumes-then}
 use Rattle.dvd_capture.specs.Listed.{field_at, marked_by, run_count}
@@ -35,9 +35,9 @@ unfolding field_at
 field-number bytes = omega arith
 
 -- THE NUMBER OF RUNS, after the bytes of the rows.
-module _ (rows : List ℕ) (mark : ℕ → Bool) (are : AreRows rows mark) (old : Option (List ℕ)) where
+module _ (rows : List ℕ) (mark : ℕ → Bool) (are : AreRows rows mark) (old : Bytes) where
   -- the unit isn't fetched for want of it
-  pub stopped-in-number : (new : Option (List ℕ)) (answer : FetchAnswer) → IsNoField 37_856 old new answer → IsStopped rows old new answer
+  pub stopped-in-number : (new : Bytes) (answer : FetchAnswer) → IsNoField 37_856 old new answer → IsStopped rows old new answer
   stopped-in-number new Full missing = absurd missing
   stopped-in-number new End missing = absurd missing
   stopped-in-number new (BadMarks at) missing = absurd missing
@@ -56,7 +56,7 @@ module _ (rows : List ℕ) (mark : ℕ → Bool) (are : AreRows rows mark) (old 
     stops = early-cut (rows ++ missing.taken) (omega (arith, missing.fewer, are.0, length-append rows missing.taken));
   }
 
-  module _ (new : Option (List ℕ)) (number : ℕ) (field : TakesField old new number) where
+  module _ (new : Bytes) (number : ℕ) (field : TakesField old new number) where
     -- the rows and the number of runs are 37,858 bytes
     size : length (rows ++ field.own) ≡ 37_858
     size = omega (arith, field.size, are.0, length-append rows field.own)
@@ -90,7 +90,7 @@ module _ (rows : List ℕ) (mark : ℕ → Bool) (are : AreRows rows mark) (old 
     }
 
 -- what is taken after what was taken
-pub runs-after : (bytes : List ℕ) (old mid new : Option (List ℕ)) (count n end next_end m : ℕ) (mark mark_now : ℕ → Bool)
+pub runs-after : (bytes : List ℕ) (old mid new : Bytes) (count n end next_end m : ℕ) (mark mark_now : ℕ → Bool)
     → (t : TakesRuns bytes count n end mark old mid) → TakesRuns (bytes ++ t.own) count m next_end mark_now mid new → TakesRuns bytes count m next_end mark_now old new
 runs-after bytes old mid new count n end next_end m mark mark_now t more = record {
   own = t.own ++ more.own;
@@ -99,7 +99,7 @@ runs-after bytes old mid new count n end next_end m mark mark_now t more = recor
 }
 
 -- a unit that isn't fetched after more of its bytes isn't fetched after these either
-pub stopped-after : (bytes own : List ℕ) (old mid new : Option (List ℕ)) (answer : FetchAnswer) → Consumes old mid own → IsStopped (bytes ++ own) mid new answer → IsStopped bytes old new answer
+pub stopped-after : (bytes own : List ℕ) (old mid new : Bytes) (answer : FetchAnswer) → Consumes old mid own → IsStopped (bytes ++ own) mid new answer → IsStopped bytes old new answer
 stopped-after bytes own old mid new answer takes more = record {
   own = own ++ more.own;
   taken = Consumes-then old mid new own more.own takes more.taken;
@@ -107,6 +107,6 @@ stopped-after bytes own old mid new answer takes more = record {
 }
 
 -- and so where an answer is the error that says why
-pub stopped_result : {A : Type 0} (bytes own : List ℕ) (old mid new : Option (List ℕ)) (error : FetchAnswer) (answer : Result A FetchAnswer) → IsErrAnd answer (λ e. e ≡ error)
+pub stopped_result : {A : Type 0} (bytes own : List ℕ) (old mid new : Bytes) (error : FetchAnswer) (answer : Result A FetchAnswer) → IsErrAnd answer (λ e. e ≡ error)
     → Consumes old mid own → IsStopped (bytes ++ own) mid new error → IfErr answer (IsStopped bytes old new)
 stopped_result bytes own old mid new error answer is takes more = if_err answer error (IsStopped bytes old new) is (stopped-after bytes own old mid new error takes more)

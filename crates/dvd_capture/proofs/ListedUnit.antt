@@ -1,8 +1,9 @@
 -- A listed unit by the bytes of its rows and by its runs.
-use Rattle.std.proofs.Common.{◌≡◌, ◌∙◌, ℕ, ◌+◌, ◌*◌, ◌/◌, ◌%◌, ◌<◌, Bool, false, List, [], ◌++◌, length, map, take, get_or, replicate, Option, refl, sym, ap, subst, arith, length-append}
+use Rattle.std.proofs.Common.{◌≡◌, ◌∙◌, ℕ, ◌+◌, ◌*◌, ◌/◌, ◌%◌, ◌<◌, Bool, false, List, [], ◌++◌, length, map, take, get_or, replicate, refl, sym, ap, subst, arith, length-append}
 use Rattle.std.specs.List.{range_with_len}
 use Rattle.std.proofs.lemmas.List.{get_or-replicate}
 use Rattle.std.proofs.lemmas.List.FromFn.{length-map-range_with_len, get_or-map-range_with_len}
+use Rattle.dvd_ports.specs.Bytes.{Bytes}
 use Rattle.dvd_ports.proofs.KnownLemmas.{Consumes-then}
 use Rattle.coding.specs.Recording.{record_at, row_at}
 use Rattle.dvd_capture.specs.Answers.{marks_line}
@@ -58,7 +59,7 @@ marks-listed marks bytes count height width number same = mapped row marks 208 [
     each_row i below = mapped (mark_at (record_at i)) (get_or marks i []) 182 false (width i below) (λ j. at i j below)
 
 -- a plain block has no marks
-pub rows-unmarked : (old new : Option (List ℕ)) (rows : List (List ℕ)) (marks : List (List Bool)) (c : Captures Plain old new rows marks) → AreRows c.bytes (mark_of marks)
+pub rows-unmarked : (old new : Bytes) (rows : List (List ℕ)) (marks : List (List Bool)) (c : Captures Plain old new rows marks) → AreRows c.bytes (mark_of marks)
 unfolding captured_marks
 rows-unmarked old new rows marks c = (
   c.size,
@@ -73,7 +74,7 @@ rows-unmarked old new rows marks c = (
     none i = replicate 182 false
 
 -- THE WHOLE UNIT, whose rows were captured before.
-module _ (old mid new : Option (List ℕ)) (rows : List (List ℕ)) (marks marks_now : List (List Bool)) (c : Captures Plain old mid rows marks)
+module _ (old mid new : Bytes) (rows : List (List ℕ)) (marks marks_now : List (List Bool)) (c : Captures Plain old mid rows marks)
     (height : length marks_now ≡ 208) (width : (i : ℕ) → i < 208 → length (marks_line marks_now i) ≡ 182) where
   -- all runs taken after the rows: the listed unit is captured, with the rows and with the marks of its runs
   unit-captured : TakesAll c.bytes (mark_of marks_now) mid new → Captures Listed old new rows marks_now
@@ -130,7 +131,7 @@ module _ (old mid new : Option (List ℕ)) (rows : List (List ℕ)) (marks marks
       }
 
 -- a unit that ended, or failed, within its rows
-pub rows-ended : (old new : Option (List ℕ)) (count : ℕ) → EndsAfter Plain old new count → EndsAfter Listed old new count
+pub rows-ended : (old new : Bytes) (count : ℕ) → EndsAfter Plain old new count → EndsAfter Listed old new count
 rows-ended old new count e = record {
   bytes = e.bytes;
   size = e.size;
@@ -141,5 +142,5 @@ rows-ended old new count e = record {
 }
 
 -- a read that failed within the rows failed within the listed unit
-pub rows-failed : (old new : Option (List ℕ)) → FailsWithin Plain old new → FailsWithin Listed old new
+pub rows-failed : (old new : Bytes) → FailsWithin Plain old new → FailsWithin Listed old new
 rows-failed old new f = record { bytes = f.bytes; taken = f.taken; fewer = omega (arith, f.fewer) }

@@ -1,8 +1,8 @@
 -- The runs of marked places as they are written.
-use Rattle.std.proofs.Common.{◌≡◌, ◌⊎◌, ◌∙◌, ℕ, zero, suc, ◌+◌, ◌-◌, ◌*◌, ◌<◌, ◌≤◌, ◌&&◌, ◌||◌, not, nat_le, nat_lt, Bool, true, false, List, [], ◌∷◌, ◌++◌, length, get_or, slice_index, All, Option, inl, inr, refl, sym, ap, subst, arith, length-append, append_assoc, append-nil, Result, Ok, Err}
+use Rattle.std.proofs.Common.{◌≡◌, ◌⊎◌, ◌∙◌, ℕ, zero, suc, ◌+◌, ◌-◌, ◌*◌, ◌<◌, ◌≤◌, ◌&&◌, ◌||◌, not, nat_le, nat_lt, Bool, true, false, List, [], ◌∷◌, ◌++◌, length, get_or, slice_index, All, inl, inr, refl, sym, ap, subst, arith, length-append, append_assoc, append-nil, Result, Ok, Err}
 use Rattle.std.specs.Int.{to_be_bytes, w16}
 use Rattle.std.specs.Result.{OnErr, OnOk}
-use Rattle.std.specs.Io.KnownBytes.{Appends}
+use Rattle.dvd_ports.specs.Bytes.{Appends, Bytes}
 use Rattle.std.proofs.lemmas.Bool.Decides.{leb_tells, nat_tests}
 use Rattle.std.proofs.lemmas.Bool.{cases_lt}
 use Rattle.std.proofs.lemmas.List.{get_or_append_left, get_or-append-add}
@@ -300,7 +300,7 @@ module _ (rows : List ℕ) (mark : ℕ → Bool) (size : length rows ≡ 37_856)
   all-put n end own all put = record { bytes = put.bytes; count = n; end = end; runs = all-written (rows ++ own) mark n end put.begun all }
 
 -- a piece of which a front was written, and what is written before and after it
-pub prefix-after : (old mid new : Option (List ℕ)) (own piece rest : List ℕ) → Appends old mid own → AppendsPrefix mid new piece → AppendsPrefix old new (own ++ (piece ++ rest))
+pub prefix-after : (old mid new : Bytes) (own piece rest : List ℕ) → Appends old mid own → AppendsPrefix mid new piece → AppendsPrefix old new (own ++ (piece ++ rest))
 prefix-after old mid new own piece rest before part = record {
   taken = own ++ part.taken;
   rest = part.rest ++ rest;
@@ -322,12 +322,12 @@ on_err-map (Ok v) P Q f p = p
 on_err-map (Err e) P Q f p = f p
 
 -- the list of the runs was written, after the bytes of rows
-pub list-written : (before : List ℕ) (mark : ℕ → Bool) (own bytes : List ℕ) (old new : Option (List ℕ)) → AreFields before mark own → bytes ≡ own → Appends old new bytes
+pub list-written : (before : List ℕ) (mark : ℕ → Bool) (own bytes : List ℕ) (old new : Bytes) → AreFields before mark own → bytes ≡ own → Appends old new bytes
     → AppendsAll before mark old new
 list-written before mark own bytes old new are is grows = record { own = own; are = are; grows = subst (Appends old new) is grows }
 
 -- or a front of it
-pub list-begun : (before : List ℕ) (mark : ℕ → Bool) (own bytes : List ℕ) (old new : Option (List ℕ)) → AreFields before mark own → bytes ≡ own → AppendsPrefix old new bytes
+pub list-begun : (before : List ℕ) (mark : ℕ → Bool) (own bytes : List ℕ) (old new : Bytes) → AreFields before mark own → bytes ≡ own → AppendsPrefix old new bytes
     → AppendsSome before mark old new
 list-begun before mark own bytes old new are is part = record { own = own; are = are; part = subst (AppendsPrefix old new) is part }
 
@@ -364,7 +364,7 @@ module _ (rows : List (List ℕ)) (height : length rows ≡ 208) (widths : (i : 
     unit-of-marks = unit-of (marks_rows marks) (marks-height marks) (marks-width marks)
 
     -- the rows were written, and all runs
-    pub unit-written : (old mid new : Option (List ℕ)) → Appends old mid (recording rows) → AppendsAll (recording rows) (mark_of (marks_rows marks)) mid new
+    pub unit-written : (old mid new : Bytes) → Appends old mid (recording rows) → AppendsAll (recording rows) (mark_of (marks_rows marks)) mid new
         → AppendsUnit old new rows (marks_rows marks)
     unit-written old mid new before all = record {
       unit = recording rows ++ all.own;
@@ -373,7 +373,7 @@ module _ (rows : List (List ℕ)) (height : length rows ≡ 208) (widths : (i : 
     }
 
     -- or some of them
-    pub runs-begun : (old mid new : Option (List ℕ)) → Appends old mid (recording rows) → AppendsSome (recording rows) (mark_of (marks_rows marks)) mid new
+    pub runs-begun : (old mid new : Bytes) → Appends old mid (recording rows) → AppendsSome (recording rows) (mark_of (marks_rows marks)) mid new
         → AppendsPart old new rows (marks_rows marks)
     runs-begun old mid new before some = record {
       unit = recording rows ++ some.own;
@@ -382,7 +382,7 @@ module _ (rows : List (List ℕ)) (height : length rows ≡ 208) (widths : (i : 
     }
 
     -- or a front of the rows
-    pub rows-begun : (old new : Option (List ℕ)) → AppendsPrefix old new (recording rows) → AppendsPart old new rows (marks_rows marks)
+    pub rows-begun : (old new : Bytes) → AppendsPrefix old new (recording rows) → AppendsPart old new rows (marks_rows marks)
     rows-begun old new part =
         let mark = mark_of (marks_rows marks) in
         let number = to_be_bytes w16 (starts_below mark 37_856) in

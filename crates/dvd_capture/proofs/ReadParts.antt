@@ -1,13 +1,13 @@
 -- Two buffers that are filled one after the other.
-use Rattle.std.proofs.Common.{◌≡◌, ◌∙◌, ℕ, ◌+◌, ◌≤◌, List, ◌++◌, length, take, Option, ap, subst, sym, arith, length-append}
+use Rattle.std.proofs.Common.{◌≡◌, ◌∙◌, ℕ, ◌+◌, ◌≤◌, List, ◌++◌, length, take, ap, subst, sym, arith, length-append}
 use Rattle.std.proofs.Math.Seq.{take-append-add}
 use Rattle.std.proofs.lemmas.List.{take_all}
-use Rattle.std.specs.Io.KnownBytes.{Consumes}
+use Rattle.dvd_ports.specs.Bytes.{Bytes, Consumes}
 use Rattle.dvd_ports.specs.Whole.{ConsumesFewer}
 use Rattle.dvd_ports.proofs.KnownLemmas.{Consumes-then}
 
 -- all of the first came, and then some of the second
-pub both_taken : (old mid new : Option (List ℕ)) (first last : List ℕ) (a n : ℕ) → a ≤ length first → length first ≤ a
+pub both_taken : (old mid new : Bytes) (first last : List ℕ) (a n : ℕ) → a ≤ length first → length first ≤ a
     → Consumes old mid (take a first) → Consumes mid new (take n last) → Consumes old new (take (a + n) (first ++ last))
 both_taken old mid new first last a n within all before now =
     let whole : a ≡ length first = omega (arith, within, all) in
@@ -17,7 +17,7 @@ both_taken old mid new first last a n within all before now =
     subst (Consumes old new) (sym joined) (Consumes-then old mid new _ _ before now)
 
 -- and then a read of the second failed
-pub both_begun : (old mid new : Option (List ℕ)) (first last : List ℕ) (a : ℕ) → a ≤ length first → length first ≤ a
+pub both_begun : (old mid new : Bytes) (first last : List ℕ) (a : ℕ) → a ≤ length first → length first ≤ a
     → Consumes old mid (take a first) → ConsumesFewer mid new (length last) → ConsumesFewer old new (length (first ++ last))
 both_begun old mid new first last a within all before fewer =
     let came : List ℕ = take a first in

@@ -2,8 +2,7 @@
 -- definitions go by index; the code reads all rows of a block as one piece.
 use Rattle.std.specs.Prelude.{◌≡◌, ◌≢◌, ℕ, ◌*◌, ◌<◌, ◌≤◌, Bool, false, List, length, map, take, drop, replicate, slice_index, ⊤}
 use Rattle.std.specs.List.{range_with_len}
-use Rattle.std.specs.Io.KnownBytes.{Consumes, IsAtEnd}
-use Rattle.std.specs.declared.option.Option.{Option}
+use Rattle.dvd_ports.specs.Bytes.{Bytes, Consumes, IsAtEnd}
 use Rattle.coding.specs.Recording.{record_at}
 use Rattle.dvd_capture.specs.Listed.{IsBrokenAt, IsUnbroken, listed_row, listed_size}
 use Rattle.dvd_capture.specs.MarkBits.{marks_of}
@@ -63,7 +62,7 @@ unfoldable pub captured_marks : Form → List ℕ → List (List Bool)
 captured_marks form bytes = map (λ i. record_marks form bytes (record_at i)) (range_with_len 0 208)
 
 -- a source lost the bytes of one block, which break no rule, and these are its rows and marks
-pub record Captures (form : Form) (old new : Option (List ℕ)) (rows : List (List ℕ)) (marks : List (List Bool)) : Type 0 where
+pub record Captures (form : Form) (old new : Bytes) (rows : List (List ℕ)) (marks : List (List Bool)) : Type 0 where
   pub bytes : List ℕ
   pub size : length bytes ≡ unit_size form bytes
   pub valid : BreaksNoRule form bytes
@@ -72,7 +71,7 @@ pub record Captures (form : Form) (old new : Option (List ℕ)) (rows : List (Li
   pub marks_are : marks ≡ captured_marks form bytes
 
 -- a source lost so many bytes, fewer than their block has, which break no rule, and has none left
-pub record EndsAfter (form : Form) (old new : Option (List ℕ)) (count : ℕ) : Type 0 where
+pub record EndsAfter (form : Form) (old new : Bytes) (count : ℕ) : Type 0 where
   pub bytes : List ℕ
   pub size : length bytes ≡ count
   pub taken : Consumes old new bytes
@@ -81,13 +80,13 @@ pub record EndsAfter (form : Form) (old new : Option (List ℕ)) (count : ℕ) :
   pub at_end : IsAtEnd new
 
 -- a source lost fewer bytes than their block has
-pub record FailsWithin (form : Form) (old new : Option (List ℕ)) : Type 0 where
+pub record FailsWithin (form : Form) (old new : Bytes) : Type 0 where
   pub bytes : List ℕ
   pub taken : Consumes old new bytes
   pub fewer : length bytes < unit_size form bytes
 
 -- a source lost bytes in which a rule is broken, first at that offset; only the listed form has rules
-pub record BreaksAt (form : Form) (old new : Option (List ℕ)) (at : ℕ) : Type 0 where
+pub record BreaksAt (form : Form) (old new : Bytes) (at : ℕ) : Type 0 where
   pub listed : form ≡ Listed
   pub bytes : List ℕ
   pub taken : Consumes old new bytes

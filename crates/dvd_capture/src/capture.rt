@@ -4,7 +4,7 @@
 //! the stack, since nothing is allocated once blocks are read.
 ghost use Rattle.std.specs.Prelude.{◌≡◌, ◌≢◌, ℕ, ◌*◌, ◌<◌, ◌==◌, if◌then◌else◌, Bool, List, ◌++◌, ◌+◌, ◌≤◌, IfOk, OnErr, length, take, slice_set};
 ghost use Rattle.std.specs.Io.{ReadsAtMost};
-ghost use Rattle.std.specs.Io.KnownBytes.{Consumes, IsAtEnd};
+ghost use Rattle.dvd_ports.specs.Bytes.{Consumes, IsAtEnd};
 ghost use Rattle.dvd_ports.specs.Causes.{HasFilled};
 ghost use Rattle.dvd_ports.specs.Whole.{ConsumesFewer};
 ghost use Rattle.coding.specs.Recording.{row_at};

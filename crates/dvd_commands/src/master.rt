@@ -9,7 +9,7 @@
 //! where one did, was its last. No report is written, so clauses are of any (`report`), which stays as it is.
 ghost use Rattle.std.specs.Thread.{IsSync};
 ghost use Rattle.std.specs.Prelude.{◌≡◌, ◌-◌, ◌*◌, ◌<◌, ◌≤◌, ℕ, List, length, take, drop, replicate, IfErr, IsErr, OnOk, refl};
-ghost use Rattle.std.specs.Io.KnownBytes.{Consumes};
+ghost use Rattle.dvd_ports.specs.Bytes.{Consumes};
 ghost use Rattle.dvd_block.specs.Buffers.{block_rows, piece_bytes};
 ghost use Rattle.coding.specs.Product.{IsBlockOf, IsParityAdded};
 ghost use Rattle.dvd_layout.specs.Place.{HasNumbers};

@@ -1,6 +1,6 @@
 -- What comes after the last unit, as a loop reaches it, and the closing line after the loop.
 use Rattle.std.proofs.Common.{◌≡◌, ◌≢◌, inl, inr, ℕ, ◌<◌, List, [], ◌∷◌, ◌++◌, length, refl, ap, sym, subst, arith}
-use Rattle.std.specs.Io.KnownBytes.{Appends, Consumes, IsAtEnd}
+use Rattle.dvd_ports.specs.Bytes.{Appends, Consumes, IsAtEnd}
 use Rattle.dvd_ports.specs.Causes.{HasGoneOn}
 use Rattle.dvd_ports.specs.Seen.{Seen}
 use Rattle.dvd_ports.specs.Whole.{AppendsPrefix}

@@ -1,6 +1,6 @@
 -- How a loop over units of given sizes may end.
 use Rattle.std.proofs.Common.{◌≡◌, ◌≢◌, ℕ, List, refl, sym, subst, ◌∙◌, arith}
-use Rattle.dvd_loop.specs.Streams.{Counts, is_report_fault, no_stream}
+use Rattle.dvd_loop.specs.Streams.{Counts, is_report_fault, untroubled}
 use Rattle.dvd_loop.specs.Laws.{IsDamageEnd, IsNever, IsPlainEnd}
 use Rattle.dvd_loop.specs.Machine.{IsOutcome, Outcome, Units, sized}
 use Rattle.dvd_loop.specs.declared.ends.AfterLast.TheVariants.{EndOfInput, NoControl as StopsNoControl}
@@ -47,8 +47,9 @@ module _ (units : Units) (size : ℕ → ℕ) (begins : (k : ℕ) (own : List �
   damage_end (ShortHeader held) is = absurd (never_short_header units bytes outcome runs held is)
   damage_end (BadHeader at) is = absurd (never_bad_header units bytes outcome runs at is)
 
--- the report of a stream that is not there can't fail
-pub never_told : (end : LoopEnd) → Counts (is_report_fault end) no_stream no_stream → end ≢ ReportFault
-never_told end counts is =
-    let failed : Counts (is_report_fault ReportFault) no_stream no_stream = subst (λ e. Counts (is_report_fault e) no_stream no_stream) is counts in
+-- the report of a stream that never stops can't fail
+pub never_told : (before moved : List ℕ) (end : LoopEnd) → Counts (is_report_fault end) (untroubled before) (untroubled moved) → end ≢ ReportFault
+never_told before moved end counts is =
+    let failed : Counts (is_report_fault ReportFault) (untroubled before) (untroubled moved) =
+    subst (λ e. Counts (is_report_fault e) (untroubled before) (untroubled moved)) is counts in
     omega (arith, failed.faults)

@@ -1,12 +1,12 @@
 -- A run whose units report nothing is the same with any report, which stays as it is.
 use Rattle.std.proofs.Common.{◌≡◌, ◌∙◌, inl, inr, ℕ, zero, suc, ◌+◌, Bool, true, false, List, [], ◌∷◌, ◌++◌, length, ap, refl, subst, sym, arith}
-use Rattle.std.specs.Io.KnownBytes.{Appends}
+use Rattle.dvd_ports.specs.Bytes.{Appends}
 use Rattle.dvd_ports.proofs.StopLemmas.{unmoved}
 use Rattle.dvd_ports.specs.Seen.{Seen}
 use Rattle.dvd_ports.proofs.KnownLemmas.{Appends-none}
 use Rattle.dvd_loop.specs.Machine.{Performs, EndsAfterLast, Continues, ContinuesAfter, IsOutcome, Outcome, Step, Units, bad_of, plain_units}
 use Rattle.dvd_loop.specs.Machine.Step.{Write, Report}
-use Rattle.dvd_loop.specs.Streams.{Counts, HasEnded, is_report_fault, no_stream, streams}
+use Rattle.dvd_loop.specs.Streams.{Counts, HasEnded, is_report_fault, streams, untroubled}
 use Rattle.dvd_loop.specs.declared.ends.AfterLast.{AfterLast}
 use Rattle.dvd_loop.specs.declared.ends.AfterLast.TheVariants as after_last
 use Rattle.dvd_loop.specs.declared.ends.LoopEnd.{LoopEnd}
@@ -80,10 +80,10 @@ kind_silent Good A none a goes = none a goes
 kind_silent Bad A none a goes = none a goes
 kind_silent Last A none a is = no_lines a _ is refl
 
--- a stream that is not there never failed, and so one that nobody touched hasn't
-none_failed : (fails : Bool) (s : Seen) → Counts fails no_stream no_stream → Counts fails s s
-none_failed false s on = unmoved s
-none_failed true s failed = absurd (omega (arith, failed.faults))
+-- a stream that never stops hasn't failed, and so one that nobody touched hasn't
+none_failed : (fails : Bool) (before moved : List ℕ) (s : Seen) → Counts fails (untroubled before) (untroubled moved) → Counts fails s s
+none_failed false before moved s on = unmoved s
+none_failed true before moved s failed = absurd (omega (arith, failed.faults))
 
 module _ (units : Units) (are : AreSilent units) where
   -- from a unit on
@@ -100,10 +100,10 @@ module _ (units : Units) (are : AreSilent units) where
   ]
 
   -- a run without a report is one beside any
-  pub beside : (source new_source output new_output report : Seen) (end : LoopEnd)
-      → HasEnded (IsOutcome units) (streams source output no_stream) (streams new_source new_output no_stream) end
+  pub beside : {before moved : List ℕ} (source new_source output new_output report : Seen) (end : LoopEnd)
+      → HasEnded (IsOutcome units) (streams source output (untroubled before)) (streams new_source new_output (untroubled moved)) end
       → HasEnded (IsOutcome units) (streams source output report) (streams new_source new_output report) end
-  beside source new_source output new_output report end ended =
+  beside {before = before} {moved = moved} source new_source output new_output report end ended =
       let comes = ended.comes in
       let none = steps_silent units.opens are.opens (Continues units units.count [] 0 comes.bytes) (goes_silent units.count [] 0 comes.bytes) comes.outcome comes.holds in
       record {
@@ -122,6 +122,6 @@ module _ (units : Units) (are : AreSilent units) where
         causes = record {
           source = ended.causes.source;
           output = ended.causes.output;
-          report = none_failed (is_report_fault end) report ended.causes.report;
+          report = none_failed (is_report_fault end) before moved report ended.causes.report;
         };
       }

@@ -1,20 +1,16 @@
 -- Streams over several calls.
 use Rattle.std.proofs.Common.{◌≡◌, inl, inr, ℕ, Bool, true, false, List, [], ◌++◌, Option, Some, None, refl, ap, subst, sym, ◌∙◌}
-use Rattle.std.specs.Io.KnownBytes.{Consumes, IsAtEnd}
-use Rattle.dvd_ports.proofs.KnownLemmas.{Appends-none, Appends-then, Consumes-then}
+use Rattle.std.specs.Io.KnownBytes.{Consumes as LosesKnown, IsAtEnd as IsKnownEnd}
+use Rattle.dvd_ports.specs.Bytes.{Bytes, Consumes, IsAtEnd}
+use Rattle.dvd_ports.proofs.KnownLemmas.{Appends-none, Appends-then, Consumes-none, Consumes-then}
 use Rattle.dvd_ports.proofs.StopLemmas.{ends_after, fails_after, goes_on, unmoved}
 use Rattle.dvd_ports.specs.Causes.{HasGoneOn}
 use Rattle.dvd_ports.specs.Seen.{Seen}
 use Rattle.dvd_loop.specs.Machine.{Outcome}
-use Rattle.dvd_loop.specs.Streams.{HaveReached, Counts, HasEnded, HaveCauses, HaveGoneOn, HaveMoved, AreKnown, SourceCounts, Streams, is_report_fault, is_write_fault, streams}
+use Rattle.dvd_loop.specs.Streams.{HaveReached, Counts, HasEnded, HaveCauses, HaveGoneOn, HaveMoved, AreKnown, AreTold, SourceCounts, Streams, is_report_fault, is_write_fault, streams}
 use Rattle.dvd_loop.specs.declared.ends.LoopEnd.{LoopEnd}
 use Rattle.dvd_loop.specs.declared.ends.LoopEnd.TheVariants.{Damaged, Done, ReadFault, Short, ShortHeader}
 use Rattle.dvd_loop.proofs.StepLemmas.{and_then, onto}
-
--- where nothing happens, no bytes are consumed
-pub Consumes-none : (a : Option (List ℕ)) → Consumes a a []
-Consumes-none None = tt
-Consumes-none (Some bytes) = refl
 
 -- streams that nobody touched
 pub stays : (old : Streams) → HaveMoved old old [] [] []
@@ -30,20 +26,29 @@ moves_on a b c taken out lines taken2 out2 lines2 p q = record {
 }
 
 -- what a source had before it gave these
-pub told_before : (a b : Option (List ℕ)) (taken bytes : List ℕ) → Consumes a b taken → AreKnown b bytes → AreKnown a (taken ++ bytes)
-told_before None b taken bytes p t = tt
-told_before (Some xs) None taken bytes p t = absurd p
-told_before (Some xs) (Some ys) taken bytes p t = p ∙ ap (λ l. taken ++ l) t
+pub told_before : (a b : Bytes) (taken bytes : List ℕ) → Consumes a b taken → AreKnown b bytes → AreKnown a (taken ++ bytes)
+told_before a b taken bytes p t = before a.left b.left p.loses t
+  where
+    before : (old new : Option (List ℕ)) → LosesKnown old new taken → AreTold new bytes → AreTold old (taken ++ bytes)
+    before None new loses known = tt
+    before (Some xs) None loses known = absurd loses
+    before (Some xs) (Some ys) loses known = loses ∙ ap (λ l. taken ++ l) known
 
 -- what is left of a source, where its bytes are known
-pub left_of : (a : Option (List ℕ)) → (left : List ℕ) × AreKnown a left
-left_of None = ([], tt)
-left_of (Some bytes) = (bytes, refl)
+pub left_of : (a : Bytes) → (left : List ℕ) × AreKnown a left
+left_of a = of a.left
+  where
+    of : (known : Option (List ℕ)) → (left : List ℕ) × AreTold known left
+    of None = ([], tt)
+    of (Some bytes) = (bytes, refl)
 
 -- a source at its end has nothing left
-pub none_left : (a : Option (List ℕ)) → IsAtEnd a → AreKnown a []
-none_left None end = tt
-none_left (Some bytes) end = end
+pub none_left : (a : Bytes) → IsAtEnd a → AreKnown a []
+none_left a end = none a.left end
+  where
+    none : (left : Option (List ℕ)) → IsKnownEnd left → AreTold left []
+    none None at = tt
+    none (Some bytes) at = at
 
 -- An outcome that rests on no bytes of the source.
 pub comes_of_none : (P : Outcome → Type 0) (old new : Streams) (outcome : Outcome) → P outcome → HaveMoved old new outcome.taken outcome.out outcome.lines

@@ -1,10 +1,10 @@
 -- What a unit came to, by what was read of it and by what was done for it.
 use Rattle.std.proofs.Common.{◌≡◌, ◌<◌, inl, inr, ℕ, List, [], ◌∷◌, ◌++◌, length, IsErrAnd, Result, Ok, Err, refl, ap, sym, subst, ◌∙◌, append-nil}
-use Rattle.std.specs.Io.KnownBytes.{Appends, Consumes}
+use Rattle.dvd_ports.specs.Bytes.{Appends, Consumes}
 use Rattle.dvd_ports.specs.Seen.{Seen}
 use Rattle.dvd_ports.specs.Causes.{HasFailed, HasGoneOn}
 use Rattle.dvd_ports.specs.Whole.{AppendsPrefix}
-use Rattle.dvd_ports.proofs.KnownLemmas.{Appends-none}
+use Rattle.dvd_ports.proofs.KnownLemmas.{Appends-none, Consumes-none}
 use Rattle.dvd_ports.proofs.StopLemmas.{unmoved}
 use Rattle.dvd_loop.specs.Machine.{Performs, EndsWithin, IsUnit, Step, Units, ended, sized, stepping, taking}
 use Rattle.dvd_loop.specs.Machine.Prefix.{Cut}
@@ -16,7 +16,7 @@ use Rattle.dvd_loop.specs.declared.ends.LoopEnd.TheVariants.{ReportFault, WriteF
 use Rattle.dvd_loop.specs.declared.ends.UnitKind.{UnitKind}
 use Rattle.dvd_loop.proofs.Sizes.{sized_fewer, sized_whole}
 use Rattle.dvd_loop.proofs.StepLemmas.{onto, taken_then}
-use Rattle.dvd_loop.proofs.StreamLemmas.{Consumes-none, causes_first, comes_after, comes_of_none, go_on, left_of, moves_on, none_left, told_before}
+use Rattle.dvd_loop.proofs.StreamLemmas.{causes_first, comes_after, comes_of_none, go_on, left_of, moves_on, none_left, told_before}
 
 -- an answer that is this error
 pub err_is : {A : Type 0} (answer : Result A LoopEnd) (end : LoopEnd) → IsErrAnd answer (λ e. e ≡ end) → answer ≡ Err end

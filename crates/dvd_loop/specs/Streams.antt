@@ -1,6 +1,6 @@
 -- The three streams that a command is handed, and what a call has done to them.
-use Rattle.std.specs.Prelude.{◌≡◌, ◌⊎◌, ℕ, Option, Some, None, Bool, true, false, List}
-use Rattle.std.specs.Io.KnownBytes.{Appends, Consumes}
+use Rattle.std.specs.Prelude.{◌≡◌, ◌⊎◌, ℕ, Option, Some, None, Bool, true, false, List, []}
+use Rattle.dvd_ports.specs.Bytes.{Appends, Bytes, Consumes}
 use Rattle.dvd_ports.specs.Causes.{HasFailed, HasGoneOn, HasMetEnd}
 use Rattle.dvd_ports.specs.Seen.{Seen}
 use Rattle.dvd_loop.specs.Machine.{Outcome}
@@ -17,14 +17,22 @@ pub record Streams : Type 0 where
 abbrev pub streams : Seen → Seen → Seen → Streams
 streams source output report = record { source = source; output = output; report = report }
 
+-- a stream that never stops, once it has moved these bytes
+abbrev pub untroubled : List ℕ → Seen
+untroubled moved = record { bytes = record { moved = moved; left = None }; faults = 0; ends = 0; stopped = false }
+
 -- a stream that is not there
 abbrev pub no_stream : Seen
-no_stream = record { bytes = None; faults = 0; ends = 0; stopped = false }
+no_stream = untroubled []
 
--- the bytes of a stream, where they are known, are these
-abbrev pub AreKnown : Option (List ℕ) → List ℕ → Type 0
-AreKnown None bytes = Unit {0}
-AreKnown (Some known) bytes = known ≡ bytes
+-- these are the bytes, where they are known
+abbrev pub AreTold : Option (List ℕ) → List ℕ → Type 0
+AreTold None bytes = Unit {0}
+AreTold (Some known) bytes = known ≡ bytes
+
+-- the bytes that a source has left, where they are known, are these
+abbrev pub AreKnown : Bytes → List ℕ → Type 0
+AreKnown source bytes = AreTold source.left bytes
 
 -- the source has given what was read, and the output and the report have grown by what was written to them
 pub record HaveMoved (old new : Streams) (taken out lines : List ℕ) : Type 0 where
@@ -32,8 +40,8 @@ pub record HaveMoved (old new : Streams) (taken out lines : List ℕ) : Type 0 w
   pub writes : Appends old.output.bytes new.output.bytes out
   pub reports : Appends old.report.bytes new.report.bytes lines
 
--- There are bytes, those of the source where they are known, and an outcome of P over them with this end, and the
--- streams have moved by that outcome.
+-- There are bytes, those that the source has left where they are known, and an outcome of P over them with this end, and
+-- the streams have moved by that outcome.
 pub record HaveReached (P : List ℕ → Outcome → Type 0) (old new : Streams) (end : LoopEnd) : Type 0 where
   pub bytes : List ℕ
   pub known : AreKnown old.source.bytes bytes

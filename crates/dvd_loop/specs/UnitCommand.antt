@@ -1,6 +1,6 @@
 -- What the calls of a command do: for its opening, for one unit and for its closing.
 use Rattle.std.specs.Prelude.{◌≡◌, ◌<◌, ◌⊎◌, ℕ, List, [], ◌∷◌, ◌++◌, length, Result, Ok, Err}
-use Rattle.std.specs.Io.KnownBytes.{Consumes, IsAtEnd}
+use Rattle.dvd_ports.specs.Bytes.{Consumes, IsAtEnd}
 use Rattle.dvd_ports.specs.Seen.{Seen}
 use Rattle.dvd_loop.specs.Machine.{Performs, IsUnit, IsTaken, IsEndedWithin, Outcome, Step, Units}
 use Rattle.dvd_loop.specs.Machine.Step.{Write, Report}

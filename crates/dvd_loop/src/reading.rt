@@ -1,7 +1,7 @@
 //! The bytes of one unit. `seen` is what a clause sees of a stream: its bytes, how often it failed and ended, and
 //! whether its last call did either.
 ghost use Rattle.std.specs.Prelude.{◌<◌, ◌^◌, length, IfErr, OnOk};
-ghost use Rattle.std.specs.Io.KnownBytes.{Consumes};
+ghost use Rattle.dvd_ports.specs.Bytes.{Consumes};
 ghost use Rattle.dvd_loop.specs.UnitCommand.{EndsShort, HasReadCause};
 
 use crate::LoopEnd;

@@ -1,5 +1,5 @@
 -- The counts of an object over several calls.
-use Rattle.std.proofs.Common.{◌∙◌, refl, arith, subst, sym, ℕ, ◌≤◌, ap}
+use Rattle.std.proofs.Common.{◌∙◌, refl, arith, subst, sym, ◌≤◌, ap}
 use Rattle.dvd_ports.specs.Causes.{HasFailed, HasGoneOn, HasMetEnd, Rose, next_count}
 use Rattle.dvd_ports.specs.Seen.{Seen}
 

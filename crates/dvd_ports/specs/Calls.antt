@@ -1,7 +1,7 @@
 -- What every call of a source or a sink does, by what is seen of the object before it and after it.
 use Rattle.std.specs.Prelude.{ℕ, ◌≡◌, ◌<◌, false, List, length, Result, IfOk, OnErr}
 use Rattle.std.specs.Io.{ReadsAtMost, WritesAtMost}
-use Rattle.std.specs.Io.KnownBytes.{ReadConsumes, WriteAppends}
+use Rattle.dvd_ports.specs.Bytes.{ReadConsumes, WriteAppends}
 use Rattle.dvd_ports.specs.Causes.{HasFailed, HasGoneOn, HasMetEnd}
 use Rattle.dvd_ports.specs.Seen.{Seen}
 
@@ -10,8 +10,8 @@ pub record HasMoved (before now : Seen) : Type 0 where
   pub goes_on : HasGoneOn before now
   pub last : now.stopped ≡ false
 
--- A read moved the first bytes that were left to the beginning of the buffer. None into a buffer with room is the end
--- of the input. A read that failed lost none.
+-- A read moved bytes to the beginning of the buffer, the first of those that were left. None into a buffer with room is
+-- the end of the input. A read that failed moved none and lost none.
 pub record IsRead {E : Type 0} (before now : Seen) (result : Result ℕ E) (buf : List ℕ) : Type 0 where
   pub bound : ReadsAtMost result buf
   pub bytes : ReadConsumes before.bytes now.bytes result buf
@@ -20,7 +20,7 @@ pub record IsRead {E : Type 0} (before now : Seen) (result : Result ℕ E) (buf 
   pub failed : OnErr result (HasFailed before now)
 
 -- A write accepted bytes from the beginning of the buffer, at least one if there is one. They follow those accepted
--- before. A write that failed accepted none, where the bytes of the sink are known.
+-- before. A write that failed accepted none.
 pub record IsWrite {E : Type 0} (before now : Seen) (result : Result ℕ E) (buf : List ℕ) : Type 0 where
   pub bound : WritesAtMost result buf
   pub progress : 0 < length buf → IfOk result (λ count. 0 < count)

@@ -1,5 +1,6 @@
 -- What the contracts speak of: what is seen of sources and sinks, and what a call moves.
 pub mod Adapters
+pub mod Bytes
 pub mod Calls
 pub mod Causes
 pub mod Memory

@@ -1,18 +1,19 @@
 -- Ours: a piece that was written, and what is left where one was written, or a buffer filled, only in part.
 use Rattle.std.specs.Prelude.{◌≡◌, ◌≢◌, ℕ, ◌<◌, List, [], ◌++◌, length, Option, Result, OnErr, OnOk}
-use Rattle.std.specs.Io.KnownBytes.{Appends, Consumes}
+use Rattle.std.specs.Io.KnownBytes.{Appends as GainsKnown}
+use Rattle.dvd_ports.specs.Bytes.{Appends, Bytes, Consumes}
 use Rattle.dvd_ports.specs.Causes.{HasCause}
 use Rattle.dvd_ports.specs.Seen.{Seen}
 
--- known bytes grew by a prefix of the piece, or by all of it
-pub record AppendsSomePrefix (old new : Option (List ℕ)) (piece : List ℕ) : Type 0 where
+-- where a writer of std tells its bytes, they grew by a prefix of the piece, or by all of it
+pub record GainsPrefix (old new : Option (List ℕ)) (piece : List ℕ) : Type 0 where
   pub taken : List ℕ
   pub rest : List ℕ
-  pub grows : Appends old new taken
+  pub grows : GainsKnown old new taken
   pub whole : taken ++ rest ≡ piece
 
--- known bytes grew by a prefix of the piece, and something of it was left
-pub record AppendsPrefix (old new : Option (List ℕ)) (piece : List ℕ) : Type 0 where
+-- a prefix of the piece was accepted, and something of it was left
+pub record AppendsPrefix (old new : Bytes) (piece : List ℕ) : Type 0 where
   pub taken : List ℕ
   pub rest : List ℕ
   pub grows : Appends old new taken
@@ -26,8 +27,8 @@ pub record IsWritten {E : Type 0} (piece : List ℕ) (old new : Seen) (answer : 
   pub begun : OnErr answer (AppendsPrefix old.bytes new.bytes piece)
   pub cause : HasCause old new answer
 
--- known bytes lost fewer than `size` at their beginning
-pub record ConsumesFewer (old new : Option (List ℕ)) (size : ℕ) : Type 0 where
+-- fewer than `size` bytes were given
+pub record ConsumesFewer (old new : Bytes) (size : ℕ) : Type 0 where
   pub taken : List ℕ
   pub loses : Consumes old new taken
   pub fewer : length taken < size

@@ -3,23 +3,27 @@
 //! sees by them whether a call failed. `stopped` says that the last call failed or met the end. No code reads it:
 //! contracts do, through `seen`. They ask that the call that failed was the last, which the counts don't show, since
 //! calls that move bytes leave these as they are. `derive(Drop)` lets an owner let go of a value.
-ghost use Rattle.std.specs.Prelude.{◌≡◌, ◌<◌, length, take, None, IfOk, OnErr, is_ok, false, if◌then◌else◌};
-ghost use Rattle.std.specs.Io.KnownBytes.{Appends};
+ghost use Rattle.std.specs.Prelude.{◌≡◌, ◌<◌, [], length, take, None, IfOk, OnErr, is_ok, false, if◌then◌else◌};
+ghost use Rattle.std.specs.Io.KnownBytes.{Appends as GainsKnown};
 ghost use Rattle.dvd_ports.specs.Calls.{IsRead, IsWrite};
 ghost use Rattle.dvd_ports.specs.Causes.{next_count};
-ghost use Rattle.dvd_ports.specs.Whole.{AppendsSomePrefix};
+ghost use Rattle.dvd_ports.specs.Whole.{GainsPrefix};
 
+use crate::moved::Moved;
 use crate::{Failed, Sink, Source};
 use std::io::{Read, Write};
 
 #[cfg(test)]
 mod tests;
 
-/// A source over a reader, for real streams. Its bytes are known where std knows those of the reader. An error's kind
-/// is dropped, and nobody asks for it: each is a fault, an interrupted call too, since nothing is tried again.
+/// A source over a reader, for real streams. The bytes that are left are known where std knows those of the reader; those
+/// that its reads returned are known always. An error's kind is dropped, and nobody asks for it: each is a fault, an
+/// interrupted call too, since nothing is tried again.
 #[derive(Drop)]
 pub struct StdSource<R: Read> {
     reader: R,
+    // What its reads returned.
+    moved: Moved,
     faults: u64,
     ends: u64,
     stopped: bool,
@@ -31,10 +35,11 @@ impl<R: Read> StdSource<R> {
     /// A source over this reader. Nothing is read yet.
     pub fn new(reader: R) -> StdSource<R>
         ensures reader { source_reader result ≡ reader }
-        ensures seen { ⟦<StdSource<R> as Source>⟧.seen result ≡ record { bytes = R.remaining reader; faults = 0; ends = 0; stopped = false } }
+        ensures seen { ⟦<StdSource<R> as Source>⟧.seen result ≡ record { bytes = record { moved = []; left = R.remaining reader }; faults = 0; ends = 0; stopped = false } }
     {
         StdSource {
             reader,
+            moved: Moved::new(),
             faults: 0,
             ends: 0,
             stopped: false,
@@ -43,7 +48,7 @@ impl<R: Read> StdSource<R> {
 }
 
 impl<R: Read> Source for StdSource<R> {
-    ghost seen = { λ s. record { bytes = R.remaining s.reader; faults = s.faults; ends = s.ends; stopped = s.stopped } };
+    ghost seen = { λ s. record { bytes = record { moved = s.moved.bytes; left = R.remaining s.reader }; faults = s.faults; ends = s.ends; stopped = s.stopped } };
 
     fn read(&mut self, buf: &mut [u8]) -> Result<usize, Failed>
         ensures counts { (⟦<StdSource<R> as Source>⟧.seen self.new).faults
@@ -66,6 +71,7 @@ impl<R: Read> Source for StdSource<R> {
                 Ok(0)
             }
             Ok(count) => {
+                self.moved.note(&buf[..count]);
                 self.stopped = false;
                 Ok(count)
             }
@@ -78,11 +84,14 @@ impl<R: Read> Source for StdSource<R> {
 }
 
 /// A sink over a writer, which it flushes after each write, so that a fault is known at the write that caused it. A
-/// write that accepts nothing of a piece has failed, so that a loop over the sink ends. Its bytes aren't known (`None`
-/// in `seen`): every sink promises that a failed call accepted none, and a flush may fail after they were accepted.
+/// write that accepts nothing of a piece has failed, so that a loop over the sink ends. A failed call accepted none, as
+/// for every sink: where only the flush failed, the bytes of that call don't count as accepted, though the writer may
+/// have them.
 #[derive(Drop)]
 pub struct StdSink<W: Write> {
     writer: W,
+    // What its writes accepted.
+    moved: Moved,
     faults: u64,
     stopped: bool,
 }
@@ -93,10 +102,11 @@ impl<W: Write> StdSink<W> {
     /// A sink over this writer. Nothing is written yet. `ends` is 0 for each sink: only an input ends.
     pub fn new(writer: W) -> StdSink<W>
         ensures writer { sink_writer result ≡ writer }
-        ensures seen { ⟦<StdSink<W> as Sink>⟧.seen result ≡ record { bytes = None; faults = 0; ends = 0; stopped = false } }
+        ensures seen { ⟦<StdSink<W> as Sink>⟧.seen result ≡ record { bytes = record { moved = []; left = None }; faults = 0; ends = 0; stopped = false } }
     {
         StdSink {
             writer,
+            moved: Moved::new(),
             faults: 0,
             stopped: false,
         }
@@ -106,7 +116,7 @@ impl<W: Write> StdSink<W> {
 impl<W: Write> Sink for StdSink<W> {
     ghost use Rattle.dvd_ports.specs.Adapters.{sink_writer};
 
-    ghost seen = { λ s. record { bytes = None; faults = s.faults; ends = 0; stopped = s.stopped } };
+    ghost seen = { λ s. record { bytes = record { moved = s.moved.bytes; left = None }; faults = s.faults; ends = 0; stopped = s.stopped } };
 
     // For the prover, two lemmas: a write takes a prefix of the piece, whether it fails or not, and a flush no more.
     #[tactic(auto, using(crate::proofs::KnownLemmas::write_prefix, crate::proofs::KnownLemmas::prefix_kept))]
@@ -117,8 +127,8 @@ impl<W: Write> Sink for StdSink<W> {
 
         // What std knows of the writer's bytes. Where only the flush failed, the writer may have the whole piece.
         ensures written { IfOk result (λ count.
-            Appends (W.contents (sink_writer self.old)) (W.contents (sink_writer self.new)) (take count buf.now)) }
-        ensures begun { OnErr result (AppendsSomePrefix (W.contents (sink_writer self.old)) (W.contents (sink_writer self.new)) buf.now) }
+            GainsKnown (W.contents (sink_writer self.old)) (W.contents (sink_writer self.new)) (take count buf.now)) }
+        ensures begun { OnErr result (GainsPrefix (W.contents (sink_writer self.old)) (W.contents (sink_writer self.new)) buf.now) }
 
         // As every sink.
         ensures call { IsWrite (⟦<StdSink<W> as Sink>⟧.seen self.old) (⟦<StdSink<W> as Sink>⟧.seen self.new) result buf.now }
@@ -133,6 +143,7 @@ impl<W: Write> Sink for StdSink<W> {
         match self.writer.write(buf) {
             Ok(count) if count > 0 => match self.writer.flush() {
                 Ok(()) => {
+                    self.moved.note(&buf[..count]);
                     self.stopped = false;
                     Ok(count)
                 }

@@ -16,6 +16,8 @@ mod sources;
 mod sinks;
 /// Objects over std's readers and writers.
 mod adapters;
+/// What an object's calls have moved, for contracts alone.
+mod moved;
 
 pub use adapters::{StdSink, StdSource};
 pub use port::{Failed, NoMemory, Sink, Source, WriteFault};

@@ -1,6 +1,6 @@
 //! Sources, sinks and their errors. They are traits of this project and not std's readers and writers, since a contract
-//! asks of an object what those don't have: how often it failed, and whether its last call did. `Seen` is that, and
-//! what is known of the bytes. The texts of the errors are for who prints one: the programs have lines of their own.
+//! asks of an object what those don't have: how often it failed, whether its last call did, and which bytes its calls
+//! have moved. `Seen` is that, and what is known of the bytes that are left. The texts of the errors are for who prints one: the programs have lines of their own.
 ghost use Rattle.std.specs.Prelude.{◌≡◌, length};
 ghost use Rattle.dvd_ports.specs.Calls.{IsRead, IsWrite};
 ghost use Rattle.dvd_ports.specs.Seen.{Seen};
@@ -26,7 +26,7 @@ pub struct NoMemory;
 
 /// Where bytes come from.
 pub trait Source {
-    /// The bytes that are left, where they are known; the counts of faults and of ends; and whether the last call
+    /// The bytes that its reads returned, and those left where they are known; the counts of faults and of ends; and whether the last call
     /// failed or met the end. By the last the contracts of callers say that they try nothing again: their last call is
     /// the one that failed or met the end. It asks nothing of the stream, which may answer a further call as it likes.
     ghost seen: { Self → Seen };
@@ -42,7 +42,7 @@ pub trait Source {
 
 /// Where bytes go.
 pub trait Sink {
-    /// The bytes accepted so far, where they are known; the count of faults; and whether the last call failed.
+    /// The bytes that its writes accepted; the count of faults; and whether the last call failed.
     ghost seen: { Self → Seen };
 
     /// Accepts bytes from the beginning of `buf` and returns their number: at least one, if there is one, so that a

@@ -7,6 +7,7 @@ ghost use Rattle.dvd_ports.specs.Calls.{IsWrite};
 ghost use Rattle.dvd_ports.specs.Causes.{next_count};
 ghost use Rattle.dvd_ports.specs.Memory.{sink_seen};
 
+use crate::moved::Moved;
 use crate::{Failed, NoMemory, Sink};
 use std::alloc::Global;
 use std::marker::Model;
@@ -108,22 +109,26 @@ impl Sink for MemSink {
     }
 }
 
-/// A sink that accepts everything and never fails; its bytes aren't known. It is lent as the report of commands that
-/// write none.
-#[derive(Clone, Copy, Debug, PartialEq, Eq)]
-pub struct NullSink;
+/// A sink that accepts everything, keeps nothing and never fails. It is lent as the report of commands that write none.
+#[derive(Drop)]
+pub struct NullSink {
+    // What its writes accepted.
+    moved: Moved,
+}
 
 impl NullSink {
-    /// The sink that keeps nothing. A call, though the type has one value: so a clause says what is seen of it.
+    /// A sink that keeps nothing. Nothing is written yet.
     pub fn new() -> NullSink
-        ensures { ⟦<NullSink as Sink>⟧.seen result ≡ record { bytes = None; faults = 0; ends = 0; stopped = false } }
+        ensures { ⟦<NullSink as Sink>⟧.seen result ≡ record { bytes = record { moved = []; left = None }; faults = 0; ends = 0; stopped = false } }
     {
-        NullSink
+        NullSink {
+            moved: Moved::new(),
+        }
     }
 }
 
 impl Sink for NullSink {
-    ghost seen = { λ _. record { bytes = None; faults = 0; ends = 0; stopped = false } };
+    ghost seen = { λ s. record { bytes = record { moved = s.moved.bytes; left = None }; faults = 0; ends = 0; stopped = false } };
 
     fn write(&mut self, buf: &[u8]) -> Result<usize, Failed>
         ensures takes { result ≡ Ok (length buf.now) }
@@ -132,6 +137,9 @@ impl Sink for NullSink {
         ensures call { IsWrite (⟦<NullSink as Sink>⟧.seen self.old) (⟦<NullSink as Sink>⟧.seen self.new) result buf.now }
         ensures empty { length buf.now ≡ 0 → (result ≡ Ok 0) × (self.new ≡ self.old) }
     {
+        if !buf.is_empty() {
+            self.moved.note(buf);
+        }
         Ok(buf.len())
     }
 }

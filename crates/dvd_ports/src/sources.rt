@@ -4,7 +4,7 @@
 //! bits. Contracts ask by `stopped` that a call that failed, or met the end, was the last. The clauses of `read` say
 //! more than those of every source, exactly what each call does, so that a test can state what must come.
 //! `derive(Drop)` lets an owner let go of a value.
-ghost use Rattle.std.specs.Prelude.{◌≡◌, ◌<◌, ◌≤◌, ◌↔◌, ◌++◌, length, take, drop, min, Some, Contains, IfOk, IsErr, OnErr, OnOk, true, false};
+ghost use Rattle.std.specs.Prelude.{◌≡◌, ◌<◌, ◌≤◌, ◌↔◌, ◌++◌, [], length, take, drop, min, Some, Contains, IfOk, IsErr, OnErr, OnOk, true, false};
 ghost use Rattle.dvd_ports.specs.Calls.{IsRead};
 ghost use Rattle.dvd_ports.specs.Causes.{next_count};
 ghost use Rattle.dvd_ports.specs.Memory.{slice_seen, source_seen};
@@ -16,7 +16,9 @@ use std::marker::Model;
 /// It isn't for tests alone: a command that reads nothing is lent an empty one, and a caller's buffer is read by one.
 #[derive(Drop)]
 pub struct SliceSource<'a> {
-    rest: &'a [u8],
+    bytes: &'a [u8],
+    // How many of them were given.
+    at: usize,
     // How many calls met the end.
     ends: u64,
     // Whether the last call, of those whose buffer had room, gave nothing.
@@ -24,20 +26,24 @@ pub struct SliceSource<'a> {
 }
 
 impl<'a> Model for SliceSource<'a> {
+    ghost use Rattle.std.specs.Prelude.{◌≤◌, drop, length, take};
     ghost use Rattle.dvd_ports.specs.Memory.{SliceState};
 
     ghost Value = { SliceState };
 
-    ghost view = { λ s. record { left = s.rest.now; ends = s.ends; stopped = s.stopped } };
+    ghost view = { λ s. record { given = take s.at s.bytes.now; left = drop s.at s.bytes.now; ends = s.ends; stopped = s.stopped } };
+
+    ghost invariant = { λ s. s.at ≤ length s.bytes.now };
 }
 
 impl<'a> SliceSource<'a> {
     /// A source of these bytes. They are borrowed, so that it takes no memory and copies nothing before a read.
     pub fn new(bytes: &'a [u8]) -> SliceSource<'a>
-        ensures { result ≡ record { left = bytes.now; ends = 0; stopped = false } }
+        ensures { result ≡ record { given = []; left = bytes.now; ends = 0; stopped = false } }
     {
         SliceSource {
-            rest: bytes,
+            bytes,
+            at: 0,
             ends: 0,
             stopped: false,
         }
@@ -51,7 +57,7 @@ impl<'a> Source for SliceSource<'a> {
         ensures gives { result ≡ Ok (min (length buf.old) (length self.old.left)) }
         ensures fills { IfOk result (λ count. buf.new ≡ take count self.old.left ++ drop count buf.old) }
         ensures leaves { 0 < length buf.old → 0 < length self.old.left → IfOk result (λ count.
-            self.new ≡ record self.old { left = drop count self.old.left; stopped = false }) }
+            self.new ≡ record self.old { given = self.old.given ++ take count self.old.left; left = drop count self.old.left; stopped = false }) }
         ensures ended { 0 < length buf.old → length self.old.left ≡ 0
             → self.new ≡ record self.old { ends = next_count self.old.ends; stopped = true } }
 
@@ -64,14 +70,15 @@ impl<'a> Source for SliceSource<'a> {
             return Ok(0);
         }
         // There is room, so a call that gives nothing has met the end. An end may be met again: each time counts.
-        self.stopped = self.rest.is_empty();
-        if self.stopped {
+        self.stopped = true;
+        if self.at == self.bytes.len() {
             self.ends = self.ends.saturating_add(1);
             return Ok(0);
         }
-        let count = buf.len().min(self.rest.len());
-        buf[..count].copy_from_slice(&self.rest[..count]);
-        self.rest = &self.rest[count..];
+        self.stopped = false;
+        let count = buf.len().min(self.bytes.len() - self.at);
+        buf[..count].copy_from_slice(&self.bytes[self.at..self.at + count]);
+        self.at += count;
         Ok(count)
     }
 }
@@ -96,12 +103,12 @@ pub struct MemSource {
 }
 
 impl Model for MemSource {
-    ghost use Rattle.std.specs.Prelude.{◌≤◌, drop, vec_len};
+    ghost use Rattle.std.specs.Prelude.{◌≤◌, drop, take, vec_len};
     ghost use Rattle.dvd_ports.specs.Memory.{SourceState};
 
     ghost Value = { SourceState };
 
-    ghost view = { λ s. record { left = drop s.at s.bytes.items; step = s.step; fails = s.fails.items; calls = s.calls; faults = s.faults; ends = s.ends; stopped = s.stopped } };
+    ghost view = { λ s. record { given = take s.at s.bytes.items; left = drop s.at s.bytes.items; step = s.step; fails = s.fails.items; calls = s.calls; faults = s.faults; ends = s.ends; stopped = s.stopped } };
 
     ghost invariant = { λ s. (s.at ≤ vec_len s.bytes) × (1 ≤ s.step) };
 }
@@ -111,7 +118,7 @@ impl MemSource {
     /// repetitions. `step` isn't 0: a call that gives nothing while there are bytes would say that they have ended.
     pub fn new(bytes: Vec<u8>, step: usize, fails: Vec<u64>) -> MemSource
         requires { 1 ≤ step }
-        ensures { result ≡ record { left = bytes.items; step = step; fails = fails.items; calls = 0; faults = 0; ends = 0; stopped = false } }
+        ensures { result ≡ record { given = []; left = bytes.items; step = step; fails = fails.items; calls = 0; faults = 0; ends = 0; stopped = false } }
     {
         MemSource {
             bytes,
@@ -134,7 +141,7 @@ impl Source for MemSource {
         ensures gives { IfOk result (λ count. count ≡ min self.old.step (min (length buf.old) (length self.old.left))) }
         ensures fills { IfOk result (λ count. buf.new ≡ take count self.old.left ++ drop count buf.old) }
         ensures leaves { 0 < length buf.old → 0 < length self.old.left → IfOk result (λ count.
-            self.new ≡ record self.old { left = drop count self.old.left; calls = next_count self.old.calls; stopped = false }) }
+            self.new ≡ record self.old { given = self.old.given ++ take count self.old.left; left = drop count self.old.left; calls = next_count self.old.calls; stopped = false }) }
         ensures ended { 0 < length buf.old → length self.old.left ≡ 0 → OnOk result (self.new
             ≡ record self.old { calls = next_count self.old.calls; ends = next_count self.old.ends; stopped = true }) }
         ensures failed { OnErr result (self.new

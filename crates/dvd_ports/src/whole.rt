@@ -4,7 +4,7 @@
 //! interrupted call again, and the second doesn't say how many bytes came before the end.
 ghost use Rattle.std.specs.Prelude.{◌<◌, length, take, IfOk, OnErr};
 ghost use Rattle.std.specs.Io.{ReadsAtMost};
-ghost use Rattle.std.specs.Io.KnownBytes.{Consumes, IsAtEnd};
+ghost use Rattle.dvd_ports.specs.Bytes.{Consumes, IsAtEnd};
 ghost use Rattle.dvd_ports.specs.Causes.{HasFilled};
 ghost use Rattle.dvd_ports.specs.Whole.{ConsumesFewer, IsWritten};
 

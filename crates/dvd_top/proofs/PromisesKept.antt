@@ -1,7 +1,7 @@
 -- The promise in plain words holds of every run, and of each call that doesn't come to a run.
 use Rattle.std.proofs.Common.{◌≡◌, ◌≢◌, ◌⊎◌, ◌∙◌, inl, inr, ℕ, List, [], ◌++◌, None, Some, refl, ap, sym, subst, ◌+◌, ◌*◌, length, arith}
 use Rattle.std.specs.Prelude.{codes}
-use Rattle.std.specs.Io.KnownBytes.{Consumes}
+use Rattle.dvd_ports.specs.Bytes.{Consumes}
 use Rattle.dvd_capture.specs.declared.form.Form.{Form}
 use Rattle.dvd_capture.specs.declared.form.Form.TheVariants.{Listed, Marked, Plain}
 use Rattle.dvd_layout.specs.Lengths.{first_fault}
@@ -10,7 +10,7 @@ use Rattle.dvd_layout.specs.declared.layout.Layout.{Layout}
 use Rattle.dvd_layout.proofs.NoFault.{no_fault}
 use Rattle.dvd_loop.specs.Laws.{IsFaultless, IsOver}
 use Rattle.dvd_loop.specs.Machine.{IsOutcome, Outcome}
-use Rattle.dvd_loop.specs.Streams.{HaveMoved, AreKnown, Streams}
+use Rattle.dvd_loop.specs.Streams.{HaveMoved, AreTold, Streams}
 use Rattle.dvd_loop.specs.declared.ends.LoopEnd.{LoopEnd}
 use Rattle.dvd_loop.specs.declared.ends.LoopEnd.TheVariants.{Damaged, Done}
 use Rattle.dvd_ports.specs.Seen.{Seen}
@@ -49,7 +49,7 @@ over_status (Damaged blocks) over = inr refl
 over_status end over = absurd over
 
 -- A run of which no call failed, over bytes that are known.
-module _ (settings : Settings) (old new : Streams) (result : Status) (run : IsRun settings old new result) (bytes : List ℕ) (known : old.source.bytes ≡ Some bytes) (none : NoneFailed old new) where
+module _ (settings : Settings) (old new : Streams) (result : Status) (run : IsRun settings old new result) (bytes : List ℕ) (known : old.source.bytes.left ≡ Some bytes) (none : NoneFailed old new) where
   -- its end is that of its loop
   same : run.line.end ≡ run.loop.end
   same = (run.complete none).1
@@ -61,7 +61,7 @@ module _ (settings : Settings) (old new : Streams) (result : Status) (run : IsRu
   -- it goes over these bytes
   goes : settings.form ≢ Listed → GoesOver settings bytes run.loop
   goes plain =
-      let is : bytes ≡ run.bytes = subst (λ b. AreKnown b run.bytes) known run.known in
+      let is : bytes ≡ run.bytes = subst (λ b. AreTold b run.bytes) known run.known in
       in_words settings.form settings bytes run.loop plain (subst (λ b. IsLoop settings b run.loop) (sym is) run.is_loop)
 
   -- its closing line is reported whole

@@ -1,7 +1,7 @@
 -- The promise in plain words, for a reader of this page alone: what `master` and `recover` give over streams whose
 -- bytes are known and of which no call failed. In each there may be no memory instead, before the first byte.
 use Rattle.std.specs.Prelude.{◌≡◌, ◌⊎◌, ℕ, ◌*◌, List, length, take, drop, codes, Some, slice_get}
-use Rattle.std.specs.Io.KnownBytes.{Appends, Consumes}
+use Rattle.dvd_ports.specs.Bytes.{Appends, Consumes}
 use Rattle.std.specs.List.{flat_map}
 use Rattle.coding.specs.Product.{IsBlockOf}
 use Rattle.coding.specs.Recording.{recording}
@@ -41,7 +41,7 @@ pub record IsStreamOf (layout : Layout) (zones : Zones) (cpr image stream : List
 abbrev pub Masters : Settings → Streams → Streams → Status → Type 0
 Masters settings old new result =
     (layout : Layout) (image : List ℕ) → settings.command ≡ Master → IsLayoutOf settings layout
-    → old.source.bytes ≡ Some image → length image ≡ 2048 * total_sectors layout → NoneFailed old new
+    → old.source.bytes.left ≡ Some image → length image ≡ 2048 * total_sectors layout → NoneFailed old new
     → (result ≡ status.NoMemory)
     ⊎ ((result ≡ status.Done) × ((stream : List ℕ) × IsStreamOf layout settings.zones settings.cpr image stream
     × HaveMoved old new image stream (codes "done\n")))
@@ -62,7 +62,7 @@ pub record IsImageOf (layout : Layout) (zones : Zones) (form : Form) (capture im
 abbrev pub Recovers : Settings → Streams → Streams → Status → Type 0
 Recovers settings old new result =
     (layout : Layout) (capture : List ℕ) → settings.command ≡ Recover → (settings.form ≡ Listed → ⊥)
-    → IsLayoutOf settings layout → old.source.bytes ≡ Some capture
+    → IsLayoutOf settings layout → old.source.bytes.left ≡ Some capture
     → length capture ≡ length (plan_of layout settings.zones) * (208 * record_size settings.form)
     → NoneFailed old new → (result ≡ status.NoMemory)
     ⊎ (((result ≡ status.Done) ⊎ (result ≡ status.Damaged))
@@ -74,5 +74,5 @@ abbrev pub GivesImage : Settings → Streams → Streams → Status → Type 0
 GivesImage settings old new result =
     (layout : Layout) (cpr image stream : List ℕ) → settings.command ≡ Recover → settings.form ≡ Plain
     → IsLayoutOf settings layout → length cpr ≡ 6 → length image ≡ 2048 * total_sectors layout
-    → IsStreamOf layout settings.zones cpr image stream → old.source.bytes ≡ Some stream → NoneFailed old new
+    → IsStreamOf layout settings.zones cpr image stream → old.source.bytes.left ≡ Some stream → NoneFailed old new
     → (result ≡ status.NoMemory) ⊎ ((result ≡ status.Done) × HaveMoved old new stream image (codes "done\n"))

@@ -11,7 +11,7 @@ use Rattle.dvd_capture.specs.declared.form.Form.TheVariants.{Marked, Listed}
 
 -- the source before its first read
 abbrev pub source_of : List ℕ → SliceState
-source_of bytes = record { left = bytes; ends = 0; stopped = false }
+source_of bytes = record { given = []; left = bytes; ends = 0; stopped = false }
 
 -- a list that was taken to its end is as long as what was taken
 taken_length : (bytes taken left : List ℕ) → bytes ≡ taken ++ left → left ≡ [] → length bytes ≡ length taken
@@ -21,7 +21,7 @@ taken_length bytes taken left whole none = ap length (whole ∙ ap (λ (rest : L
 too_short : (bytes : List ℕ) (new : SliceState) (count : ℕ) → length bytes ≡ 42640 → count < 42640
     → EndsAfter Marked (slice_seen (source_of bytes)).bytes (slice_seen new).bytes count → ⊥
 too_short bytes new count size few ends =
-    omega (arith, size, few, ends.size, taken_length bytes ends.bytes new.left ends.taken ends.at_end)
+    omega (arith, size, few, ends.size, taken_length bytes ends.bytes new.left ends.taken.loses ends.at_end)
 
 -- the answer of a source over a whole block
 pub answer_is_full : (bytes : List ℕ) (new : SliceState) (rows : List (List ℕ)) (marks : List (List Bool)) (answer : FetchAnswer)
@@ -42,7 +42,7 @@ answer_is_full bytes new rows marks (BadMarks at) size fetches =
 pub captured_bytes : (bytes : List ℕ) (new : SliceState) (rows : List (List ℕ)) (marks : List (List Bool)) → length bytes ≡ 42640
     → (captures : Captures Marked (slice_seen (source_of bytes)).bytes (slice_seen new).bytes rows marks) → captures.bytes ≡ bytes
 captured_bytes bytes new rows marks size captures =
-    let whole : bytes ≡ captures.bytes ++ new.left = captures.taken in
+    let whole : bytes ≡ captures.bytes ++ new.left = captures.taken.loses in
     let none : new.left ≡ [] =
     nil_from_length new.left (omega (arith, size, captures.size, ap length whole, length-append captures.bytes new.left)) in
     sym (whole ∙ ap (λ (rest : List ℕ). captures.bytes ++ rest) none ∙ append-nil captures.bytes)

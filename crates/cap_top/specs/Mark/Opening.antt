@@ -1,6 +1,6 @@
 -- The map of a run, which is read whole before the capture is touched.
 use Rattle.std.specs.Prelude.{◌≡◌, ℕ, List, Ok, Err}
-use Rattle.std.specs.Io.KnownBytes.{Consumes, IsAtEnd}
+use Rattle.dvd_ports.specs.Bytes.{Consumes, IsAtEnd}
 use Rattle.cap_map.specs.Map.{map_of}
 use Rattle.cap_map.specs.declared.fault.MapCause.{MapCause}
 use Rattle.cap_map.specs.declared.fault.MapFault.TheVariants as faults

@@ -1,7 +1,6 @@
 -- Ours: what is known while the fields of a listed unit come or are written one after the other.
 use Rattle.std.specs.Prelude.{◌≡◌, ℕ, ◌+◌, ◌-◌, ◌*◌, ◌<◌, ◌≤◌, ◌==◌, not, Bool, false, ◌&&◌, ◌||◌, if◌then◌else◌, zero, suc, List, [], ◌++◌, length, take, slice_index, Result, Ok, Err}
-use Rattle.std.specs.Io.KnownBytes.{Appends, Consumes, IsAtEnd}
-use Rattle.std.specs.declared.option.Option.{Option}
+use Rattle.dvd_ports.specs.Bytes.{Appends, Bytes, Consumes, IsAtEnd}
 use Rattle.dvd_ports.specs.Causes.{HasGoneOn}
 use Rattle.dvd_ports.specs.Seen.{Seen}
 use Rattle.dvd_capture.specs.Fetching.{FetchCounts}
@@ -45,7 +44,7 @@ pub record IsCut (bytes : List ℕ) : Type 0 where
   pub unbroken : IsUnbroken bytes
 
 -- why a unit isn't fetched that begins with these bytes, those that were taken of it
-abbrev pub IsStop : List ℕ → Option (List ℕ) → FetchAnswer → Type 0
+abbrev pub IsStop : List ℕ → Bytes → FetchAnswer → Type 0
 IsStop bytes left Full = ⊥
 IsStop bytes left End = ⊥
 IsStop bytes left (Short count) = (count ≡ length bytes) × IsAtEnd left × IsCut bytes
@@ -53,25 +52,25 @@ IsStop bytes left ReadFault = IsCut bytes
 IsStop bytes left (BadMarks at) = IsBrokenAt bytes at
 
 -- after those bytes more were taken, and the unit isn't fetched
-pub record IsStopped (before : List ℕ) (old new : Option (List ℕ)) (answer : FetchAnswer) : Type 0 where
+pub record IsStopped (before : List ℕ) (old new : Bytes) (answer : FetchAnswer) : Type 0 where
   pub own : List ℕ
   pub taken : Consumes old new own
   pub stops : IsStop (before ++ own) new answer
 
 -- after those bytes more were taken, and now there are so many runs
-pub record TakesRuns (before : List ℕ) (count n end : ℕ) (mark : ℕ → Bool) (old new : Option (List ℕ)) : Type 0 where
+pub record TakesRuns (before : List ℕ) (count n end : ℕ) (mark : ℕ → Bool) (old new : Bytes) : Type 0 where
   pub own : List ℕ
   pub taken : Consumes old new own
   pub runs : HasRuns (before ++ own) count n end mark
 
 -- after those bytes of rows more were taken or written, to the last run of their unit
-pub record TakesAll (before : List ℕ) (mark : ℕ → Bool) (old new : Option (List ℕ)) : Type 0 where
+pub record TakesAll (before : List ℕ) (mark : ℕ → Bool) (old new : Bytes) : Type 0 where
   pub count : ℕ
   pub end : ℕ
   pub takes : TakesRuns before count count end mark old new
 
 -- what is answered after the bytes of rows
-abbrev pub IsFetched : List ℕ → (ℕ → Bool) → Option (List ℕ) → Option (List ℕ) → FetchAnswer → Type 0
+abbrev pub IsFetched : List ℕ → (ℕ → Bool) → Bytes → Bytes → FetchAnswer → Type 0
 IsFetched before mark old new Full = TakesAll before mark old new
 IsFetched before mark old new End = ⊥
 IsFetched before mark old new (Short count) = IsStopped before old new (Short count)
@@ -86,19 +85,19 @@ pub record AreFields (before : List ℕ) (mark : ℕ → Bool) (own : List ℕ) 
   pub runs : HasRuns (before ++ own) count count end mark
 
 -- after those bytes of rows more were written, to the last run of their unit
-pub record AppendsAll (before : List ℕ) (mark : ℕ → Bool) (old new : Option (List ℕ)) : Type 0 where
+pub record AppendsAll (before : List ℕ) (mark : ℕ → Bool) (old new : Bytes) : Type 0 where
   pub own : List ℕ
   pub are : AreFields before mark own
   pub grows : Appends old new own
 
 -- after those bytes of rows a front was written of bytes that go to the last run of their unit
-pub record AppendsSome (before : List ℕ) (mark : ℕ → Bool) (old new : Option (List ℕ)) : Type 0 where
+pub record AppendsSome (before : List ℕ) (mark : ℕ → Bool) (old new : Bytes) : Type 0 where
   pub own : List ℕ
   pub are : AreFields before mark own
   pub part : AppendsPrefix old new own
 
 -- some fields came after these, no more than so many bytes in all
-pub record TakesMore (most : ℕ) (fields now : List ℕ) (old new : Option (List ℕ)) : Type 0 where
+pub record TakesMore (most : ℕ) (fields now : List ℕ) (old new : Bytes) : Type 0 where
   pub own : List ℕ
   pub some : 0 < length own
   pub within : length fields + length own ≤ most
@@ -106,20 +105,20 @@ pub record TakesMore (most : ℕ) (fields now : List ℕ) (old new : Option (Lis
   pub taken : Consumes old new own
 
 -- nothing came after so many bytes of a unit: the source ended, or a read failed
-abbrev pub TakesNone : ℕ → Option (List ℕ) → Option (List ℕ) → FetchAnswer → Type 0
+abbrev pub TakesNone : ℕ → Bytes → Bytes → FetchAnswer → Type 0
 TakesNone held old new (Short count) = (count ≡ held) × Consumes old new [] × IsAtEnd new
 TakesNone held old new ReadFault = Consumes old new []
 TakesNone held old new other = ⊥
 
 -- a field was taken after so many bytes of a unit, or the source failed or ended within it
-pub record TakesField (old new : Option (List ℕ)) (value : ℕ) : Type 0 where
+pub record TakesField (old new : Bytes) (value : ℕ) : Type 0 where
   pub own : List ℕ
   pub size : length own ≡ 2
   pub taken : Consumes old new own
   pub is : field_at own 0 ≡ value
 
 -- the source ended within a field: of its two bytes fewer came, after so many of the unit
-pub record EndsInField (held : ℕ) (old new : Option (List ℕ)) (count : ℕ) : Type 0 where
+pub record EndsInField (held : ℕ) (old new : Bytes) (count : ℕ) : Type 0 where
   pub own : List ℕ
   pub fewer : length own < 2
   pub taken : Consumes old new own
@@ -127,7 +126,7 @@ pub record EndsInField (held : ℕ) (old new : Option (List ℕ)) (count : ℕ) 
   pub at_end : IsAtEnd new
 
 -- why a field wasn't taken: the source ended within it, or a read failed
-abbrev pub IsNoField : ℕ → Option (List ℕ) → Option (List ℕ) → FetchAnswer → Type 0
+abbrev pub IsNoField : ℕ → Bytes → Bytes → FetchAnswer → Type 0
 IsNoField held old new Full = ⊥
 IsNoField held old new End = ⊥
 IsNoField held old new (Short count) = EndsInField held old new count

@@ -2,7 +2,7 @@
 use Rattle.std.proofs.Common.{◌≡◌, ◌≢◌, ◌∙◌, ℕ, ◌+◌, ◌-◌, ◌<◌, ◌≤◌, List, [], ◌∷◌, ◌++◌, length, map, take, drop, get_or, replicate, Option, None, Some, refl, sym, ap, subst, append_assoc, append-nil, arith}
 use Rattle.std.specs.List.{flat_map, range_with_len}
 use Rattle.std.specs.Option.{option_map_or}
-use Rattle.std.specs.Io.KnownBytes.{Appends}
+use Rattle.dvd_ports.specs.Bytes.{Appends, Bytes}
 use Rattle.std.proofs.lemmas.Grind.{flat_map-append}
 use Rattle.std.proofs.lemmas.List.{length-map, length-replicate, map-append, take-append-drop, take_more, ext_get_or, get_or-replicate}
 use Rattle.std.proofs.lemmas.List.FromFn.{length-map-range_with_len, get_or-map-range_with_len}
@@ -125,7 +125,7 @@ pub no_text : (tables : List Table) → text_of (take 0 tables) ≡ []
 unfolding text_of
 no_text tables = refl
 
-module _ (old mid new : Option (List ℕ)) (tables : List Table) (k : ℕ) (within : k < length tables) (before : Appends old mid (text_of (take k tables))) where
+module _ (old mid new : Bytes) (tables : List Table) (k : ℕ) (within : k < length tables) (before : Appends old mid (text_of (take k tables))) where
   -- one more
   pub block_written : Appends mid new (marked_text (get_or tables k unseen)) → Appends old new (text_of (take (k + 1) tables))
   block_written now =

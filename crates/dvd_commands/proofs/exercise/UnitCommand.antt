@@ -1,5 +1,5 @@
 -- A unit of `exercise`, and how its loop ends.
-use Rattle.std.proofs.Common.{◌≡◌, ◌≢◌, ◌∙◌, ◌⊎◌, inl, inr, ℕ, ◌+◌, ◌^◌, ◌<◌, ◌≤◌, List, replicate, slice_get, None, Some, refl, sym, ap, subst, arith}
+use Rattle.std.proofs.Common.{◌≡◌, ◌≢◌, ◌∙◌, ◌⊎◌, inl, inr, ℕ, ◌+◌, ◌^◌, ◌<◌, ◌≤◌, List, [], ◌∷◌, ◌++◌, replicate, slice_get, None, Some, refl, sym, ap, subst, arith}
 use Rattle.coding.specs.Product.{IsBlockOf}
 use Rattle.dvd_capture.specs.Parts.{marks_rows, received_rows}
 use Rattle.dvd_capture.specs.Works.{marks_of_work, rows_of, sectors_of, stage_of}
@@ -88,17 +88,27 @@ module _ (blocks k x : ℕ) (layout : Layout) (single : layout.shape ≡ Single)
         (counted (sectors_are ∙ ap drawn_sectors (sym (image_is ∙ drawn))))
         fixed_most failed_most block_left
 
--- no source is read
-pub no_source : (P : List ℕ → Outcome → Type 0) (source new_source output new_output report new_report : Seen) (end : LoopEnd)
-    → HaveReached P (streams source output report) (streams new_source new_output new_report) end
+-- of no bytes none were taken
+none_came : (taken left : List ℕ) → [] ≡ taken ++ left → [] ≡ taken
+none_came [] left is = refl
+none_came (byte ∷ taken) left is = let no : [] ≡ byte ∷ (taken ++ left) = is in cc
+
+-- A source without bytes gives none: the run is one without a source.
+pub no_source : (P : List ℕ → Outcome → Type 0) (source new_source : SliceState) (output new_output report new_report : Seen) (end : LoopEnd)
+    → source.left ≡ []
+    → HaveReached P (streams (slice_seen source) output report) (streams (slice_seen new_source) new_output new_report) end
     → HaveReached P (streams no_stream output report) (streams no_stream new_output new_report) end
-no_source P source new_source output new_output report new_report end comes = record {
+no_source P source new_source output new_output report new_report end empty comes = record {
   bytes = comes.bytes;
   known = tt;
   outcome = comes.outcome;
   holds = comes.holds;
   ends = comes.ends;
-  moved = record { reads = tt; writes = comes.moved.writes; reports = comes.moved.reports };
+  moved = record {
+    reads = record { log = none_came comes.outcome.taken new_source.left (sym empty ∙ comes.moved.reads.loses); loses = tt };
+    writes = comes.moved.writes;
+    reports = comes.moved.reports;
+  };
 }
 
 -- so no read fails

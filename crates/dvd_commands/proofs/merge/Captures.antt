@@ -1,11 +1,12 @@
 -- The captures of a block, one after the other, as `merge` takes them.
-use Rattle.std.proofs.Common.{◌≡◌, ◌∙◌, ℕ, ◌+◌, ◌*◌, ◌<◌, ◌≤◌, ◌^◌, Bool, List, [], ◌∷◌, ◌++◌, length, map, Option, Result, Err, IfErr, inl, inr, refl, ap, sym, subst, arith, length-append}
+use Rattle.std.proofs.Common.{◌≡◌, ◌∙◌, ℕ, ◌+◌, ◌*◌, ◌<◌, ◌≤◌, ◌^◌, Bool, List, [], ◌∷◌, ◌++◌, length, map, Result, Err, IfErr, inl, inr, refl, ap, sym, subst, arith, length-append}
 use Rattle.std.specs.List.{range_with_len}
 use Rattle.std.proofs.lemmas.Bool.{cases_lt}
 use Rattle.std.proofs.lemmas.List.{ext_get_or, get_or_append_left, get_or_push}
 use Rattle.std.proofs.lemmas.List.FromFn.{length-map-range_with_len, get_or-map-range_with_len}
 use Rattle.std.proofs.lemmas.List.Sums.{fold_push}
 use Rattle.std.proofs.lemmas.Nat.{mul-le}
+use Rattle.dvd_ports.specs.Bytes.{Bytes}
 use Rattle.dvd_capture.specs.Captured.{Captures, EndsAfter, FailsWithin, HasSize, block_size, captured_rows}
 use Rattle.dvd_capture.specs.declared.form.Form.{Form}
 use Rattle.dvd_capture.specs.declared.form.Form.TheVariants.{Listed, Plain, Marked}
@@ -13,7 +14,7 @@ use Rattle.dvd_capture.proofs.Fetching.{part-append, part-after, sized-block}
 use Rattle.dvd_loop.specs.UnitCommand.{EndsShort}
 use Rattle.dvd_loop.specs.declared.ends.LoopEnd.{LoopEnd}
 use Rattle.dvd_loop.specs.declared.ends.LoopEnd.TheVariants.{ReadFault, Short}
-use Rattle.dvd_loop.proofs.StreamLemmas.{Consumes-none}
+use Rattle.dvd_ports.proofs.KnownLemmas.{Consumes-none}
 use Rattle.dvd_merge.specs.Join.{Table, join_tables, joined, seen_table, unseen}
 use Rattle.dvd_ports.specs.Seen.{Seen}
 use Rattle.dvd_ports.proofs.KnownLemmas.{Consumes-then}
@@ -76,12 +77,12 @@ unfolding joined
 joined-push tables table = fold_push join_tables unseen tables table
 
 -- no capture is taken
-pub none_taken : (form : Form) (seen : Option (List ℕ)) (table : Table) → table ≡ unseen → AreTaken 0 form seen seen table
+pub none_taken : (form : Form) (seen : Bytes) (table : Table) → table ≡ unseen → AreTaken 0 form seen seen table
 unfolding tables_in joined
 none_taken form seen table is = record { bytes = []; size = grind arith; taken = Consumes-none seen; joins = is }
 
 -- one capture more
-pub capture_taken : (form : Form) → HasSize form → (n : ℕ) (old mid new : Option (List ℕ)) (table next : Table) (rows : List (List ℕ)) (marks : List (List Bool))
+pub capture_taken : (form : Form) → HasSize form → (n : ℕ) (old mid new : Bytes) (table next : Table) (rows : List (List ℕ)) (marks : List (List Bool))
     → AreTaken n form old mid table → Captures form mid new rows marks → next ≡ join_tables table (seen_table rows marks) → AreTaken (n + 1) form old new next
 capture_taken form sized n old mid new table next rows marks before own is =
     let whole : length own.bytes ≡ block_size form = own.size ∙ sized-block form sized own.bytes in

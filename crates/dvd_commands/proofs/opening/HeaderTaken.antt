@@ -1,6 +1,6 @@
 -- A run over a capture that opens with a header, and one over bytes that open with none.
 use Rattle.std.proofs.Common.{◌≡◌, ◌∙◌, inl, inr, ℕ, List, [], ◌++◌, refl, sym, ap, subst, append-nil, None}
-use Rattle.std.specs.Io.KnownBytes.{Consumes}
+use Rattle.dvd_ports.specs.Bytes.{Consumes}
 use Rattle.dvd_capture.specs.Captured.{HasSize}
 use Rattle.dvd_capture.specs.declared.form.Form.{Form}
 use Rattle.dvd_capture.specs.declared.form.Form.TheVariants.{Plain, Marked, Listed}

@@ -1,6 +1,6 @@
 -- What the private calls of the opening promise.
 use Rattle.std.specs.Prelude.{◌≡◌, ◌⊎◌, ℕ, List, length, Option, Some, None}
-use Rattle.std.specs.Io.KnownBytes.{Consumes}
+use Rattle.dvd_ports.specs.Bytes.{Consumes}
 use Rattle.dvd_capture.specs.Captured.{HasSize}
 use Rattle.dvd_capture.specs.declared.form.Form.TheVariants.{Listed}
 use Rattle.dvd_layout.specs.Lengths.{initial_fault}

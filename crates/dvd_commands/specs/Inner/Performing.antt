@@ -1,7 +1,7 @@
 -- What the private calls of the commands promise: what is read and written for one block.
-use Rattle.std.specs.Prelude.{◌≡◌, ◌⊎◌, ◌<◌, ℕ, ◌+◌, ◌*◌, Bool, true, is_some, List, [], ◌∷◌, ◌++◌, length, take, Option, None, Result, Ok, Err}
+use Rattle.std.specs.Prelude.{◌≡◌, ◌⊎◌, ◌<◌, ℕ, ◌+◌, ◌*◌, Bool, true, is_some, List, [], ◌∷◌, ◌++◌, length, take, None, Result, Ok, Err}
 use Rattle.std.specs.List.{flat_map}
-use Rattle.std.specs.Io.KnownBytes.{Consumes, IsAtEnd}
+use Rattle.dvd_ports.specs.Bytes.{Bytes, Consumes, IsAtEnd}
 use Rattle.coding.specs.Product.{line}
 use Rattle.dvd_capture.specs.Captured.{block_size}
 use Rattle.dvd_capture.specs.declared.capture.FetchAnswer.{FetchAnswer}
@@ -93,7 +93,7 @@ pub record IsLineDone (entry : BlockPlan) (blocks : List Surveyed) (rows : List 
   pub answers : kind ≡ kind_by (block_cause rows marks entry)
 
 -- A source gave the captures of a block, and this is the join of what they know of it.
-pub record AreTaken (captures : ℕ) (form : Form) (old new : Option (List ℕ)) (table : Table) : Type 0 where
+pub record AreTaken (captures : ℕ) (form : Form) (old new : Bytes) (table : Table) : Type 0 where
   pub bytes : List ℕ
   pub size : length bytes ≡ captures * block_size form
   pub taken : Consumes old new bytes

@@ -1,6 +1,6 @@
 -- What each iteration of the loop in `read_survey` keeps, and what it has left: no survey has 2^30 bytes.
 use Rattle.std.proofs.Common.{◌≡◌, ◌<◌, ◌-◌, ◌^◌, ◌++◌, ℕ, List}
-use Rattle.std.specs.Io.KnownBytes.{Consumes}
+use Rattle.dvd_ports.specs.Bytes.{Consumes}
 use Rattle.cap_survey.specs.Survey.{progress, reading_on, survey_of}
 use Rattle.dvd_ports.specs.Causes.{HasGoneOn}
 use Rattle.cap_draw.proofs.drawing.read_survey.Given as goal

@@ -2,7 +2,7 @@
 use Rattle.std.proofs.Common.{◌≡◌, [], length, rules, subst, sym}
 use Rattle.dvd_ports.proofs.StopLemmas.{fails_after}
 use Rattle.cap_lost.specs.Inner.{IsUnwritten}
-use Rattle.cap_lost.specs.Map.{last_end, extent_lines, last_lines, lines_from, map_text}
+use Rattle.cap_lost.specs.Map.{last_lines, lines_from, map_text}
 use Rattle.cap_lost.specs.declared.map.TheConstants.{HEAD}
 use Rattle.cap_lost.proofs.Pieces.{begun_then, last_written, more_written, next_lines, none_left, none_written, writes_failed}
 use Rattle.cap_lost.proofs.map.write_map.Goals as goal

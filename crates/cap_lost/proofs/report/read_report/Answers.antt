@@ -4,7 +4,7 @@ use Rattle.std.proofs.lemmas.List.{length-take-le}
 use Rattle.cap_lost.specs.Inner.{HasReadOn, IsReaderSound, closing_count}
 use Rattle.cap_lost.specs.Reads.{IsReportRefused}
 use Rattle.cap_lost.specs.declared.reader.Reader.{Reader}
-use Rattle.cap_lost.proofs.Comings.{more_came, piece_refused}
+use Rattle.cap_lost.proofs.Comings.{more_came, none_came, piece_refused}
 use Rattle.cap_lost.proofs.Readings.{err_from}
 use Rattle.cap_lost.proofs.report.read_report.Goals as goal
 
@@ -20,6 +20,9 @@ smaller old new bytes some sound moved =
     let below = sound.counted.below in
     let short = sound.short in
     let most = ended_most old.draft.written in omega (arith, number, below, short, most, moved, some)
+
+pub loop-reader-init : goal.loop-reader-init
+loop-reader-init g c = none_came c.args.layout c.args.zones _ _ c.new-reader.ensures.begins c.new-reader.ensures.sound
 
 pub loop-reader-smaller : goal.loop-reader-smaller
 loop-reader-smaller g c =

@@ -15,4 +15,4 @@ returns-clause-ends g c =
     let f = c.run_plain.ensures.comes in
     plain_end (mark_units c.args.spans.now) (λ k. 2366) (λ k own. refl) refl f.bytes f.outcome f.holds
     (λ k before own steps does. let no = does.good in cc) c.run_plain.result f.ends
-    (never_told c.run_plain.result c.run_plain.ensures.causes.report)
+    (never_told _ _ c.run_plain.result c.run_plain.ensures.causes.report)

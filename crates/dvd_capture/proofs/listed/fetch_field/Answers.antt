@@ -1,6 +1,6 @@
 -- The proof of `fetch_field` in src/listed.rt.
 use Rattle.std.proofs.Common.{rules, ◌∙◌, ◌≡◌, length, List, ℕ, sym, subst, arith}
-use Rattle.std.specs.Io.KnownBytes.{Consumes}
+use Rattle.dvd_ports.specs.Bytes.{Consumes}
 use Rattle.std.proofs.lemmas.List.{take_all}
 use Rattle.dvd_capture.proofs.ListedTaken.{field-number}
 use Rattle.dvd_capture.proofs.listed.fetch_field.Goals as goal

@@ -4,7 +4,8 @@ use Rattle.dvd_ports.proofs.StopLemmas.{goes_on}
 use Rattle.dvd_capture.specs.Listed.{mark_of}
 use Rattle.dvd_capture.specs.Inner.Listing.{IsStopped}
 use Rattle.dvd_capture.specs.Parts.{marks_rows}
-use Rattle.dvd_capture.proofs.ListedPieces.{Consumes-none, TakesFields, bad-counts, err-cause, fields-after, fields-begun, fields-whole, stopped-at-field, stopped-in-fields}
+use Rattle.dvd_ports.proofs.KnownLemmas.{Consumes-none}
+use Rattle.dvd_capture.proofs.ListedPieces.{TakesFields, bad-counts, err-cause, fields-after, fields-begun, fields-whole, stopped-at-field, stopped-in-fields}
 use Rattle.dvd_capture.proofs.ListedTaken.{if_err, stopped-at-number, stopped-in-number}
 use Rattle.dvd_capture.proofs.listed.fetch_runs.Goals as goal
 

@@ -1,6 +1,6 @@
 -- The proof of `write_blocks` in src/assemble.rt.
 use Rattle.std.proofs.Common.{◌<◌, length, sym, subst, arith}
-use Rattle.std.specs.Io.KnownBytes.{Appends}
+use Rattle.dvd_ports.specs.Bytes.{Appends}
 use Rattle.dvd_ports.specs.Whole.{AppendsPrefix}
 use Rattle.dvd_ports.proofs.KnownLemmas.{Appends-none}
 use Rattle.dvd_ports.proofs.StopLemmas.{fails_after, goes_on, unmoved}

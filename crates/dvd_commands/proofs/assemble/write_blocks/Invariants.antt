@@ -1,6 +1,6 @@
 -- What each iteration of the loop in `write_blocks` keeps.
 use Rattle.std.proofs.Common.{take}
-use Rattle.std.specs.Io.KnownBytes.{Appends}
+use Rattle.dvd_ports.specs.Bytes.{Appends}
 use Rattle.dvd_ports.specs.Causes.{HasGoneOn}
 use Rattle.dvd_assemble.specs.Shelves.{tables_of}
 use Rattle.dvd_commands.specs.Assemble.{text_of}

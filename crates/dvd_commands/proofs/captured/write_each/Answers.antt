@@ -1,7 +1,7 @@
 -- The proof of `write_each` in src/captured.rt.
 use Rattle.std.proofs.Common.{◌≡◌, ◌∙◌, ◌++◌, List, ℕ, [], sym, ap, subst, append_assoc, append-nil, rules}
 use Rattle.std.proofs.lemmas.List.{nil_from_length}
-use Rattle.std.specs.Io.KnownBytes.{Appends}
+use Rattle.dvd_ports.specs.Bytes.{Appends}
 use Rattle.std.specs.Slice.Iter.{chunks_rest}
 use Rattle.dvd_capture.proofs.ListedWritten.{prefix-after}
 use Rattle.dvd_ports.specs.Whole.{AppendsPrefix}

@@ -1,6 +1,6 @@
 -- What each iteration of the loop in `write_each` keeps.
 use Rattle.std.proofs.Common.{◌≡◌, ℕ, List, ◌++◌}
-use Rattle.std.specs.Io.KnownBytes.{Appends}
+use Rattle.dvd_ports.specs.Bytes.{Appends}
 use Rattle.std.specs.Slice.Iter.{chunks_rest, chunks_size}
 use Rattle.dvd_ports.specs.Causes.{HasGoneOn}
 use Rattle.dvd_commands.proofs.captured.write_each.Given as goal

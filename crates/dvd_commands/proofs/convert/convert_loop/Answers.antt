@@ -27,4 +27,4 @@ returns-clause-ends g c =
     let f = c.run_units.ensures.follows.comes in
     let settings = c.args.settings.now in
     plain_end (convert_units c.args.layout.now settings.zones settings.form (header_bytes c.header_of.result)) (λ k. block_size settings.form) (λ k own. sized_part settings.form c.requires.form own) refl
-    f.bytes f.outcome f.holds (λ k before own steps does. let no = does.good in cc) c.run_units.result f.ends (never_told c.run_units.result c.run_units.ensures.follows.causes.report)
+    f.bytes f.outcome f.holds (λ k before own steps does. let no = does.good in cc) c.run_units.result f.ends (never_told _ _ c.run_units.result c.run_units.ensures.follows.causes.report)

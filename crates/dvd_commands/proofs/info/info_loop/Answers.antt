@@ -19,4 +19,4 @@ returns-clause-ends g c =
     let f = c.run_units.ensures.follows.comes in
     let settings = c.args.settings.now in
     sought_end settings.form (info_units settings.initial settings.form) (λ k own. refl) f.bytes f.outcome f.holds refl
-    (never_bad settings.initial settings.form) c.run_units.result f.ends (never_told c.run_units.result c.run_units.ensures.follows.causes.report)
+    (never_bad settings.initial settings.form) c.run_units.result f.ends (never_told _ _ c.run_units.result c.run_units.ensures.follows.causes.report)

@@ -17,4 +17,4 @@ returns-clause-ends g c =
     let f = c.run_plain.ensures.comes in
     let settings = c.args.settings.now in
     plain_end (master_units c.args.layout.now settings.zones settings.cpr) (bytes_of_block c.args.layout.now settings.zones) (λ k own. refl) refl f.bytes f.outcome f.holds
-    (λ k before own steps does. let no = does.good in cc) c.run_plain.result f.ends (never_told c.run_plain.result c.run_plain.ensures.causes.report)
+    (λ k before own steps does. let no = does.good in cc) c.run_plain.result f.ends (never_told _ _ c.run_plain.result c.run_plain.ensures.causes.report)

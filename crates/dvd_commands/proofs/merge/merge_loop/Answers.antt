@@ -18,4 +18,4 @@ returns-clause-ends g c =
     let f = c.run_plain.ensures.comes in
     let settings = c.args.settings.now in
     plain_end (merge_units c.args.layout.now settings.zones settings.form settings.captures) (λ k. settings.captures * block_size settings.form) (λ k own. refl) refl f.bytes f.outcome f.holds
-    (λ k before own steps does. let no = does.1 in cc) c.run_plain.result f.ends (never_told c.run_plain.result c.run_plain.ensures.causes.report)
+    (λ k before own steps does. let no = does.1 in cc) c.run_plain.result f.ends (never_told _ _ c.run_plain.result c.run_plain.ensures.causes.report)

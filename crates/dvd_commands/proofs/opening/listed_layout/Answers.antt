@@ -1,6 +1,6 @@
 -- The proof of `listed_layout` in src/opening.rt.
 use Rattle.std.proofs.Common.{◌≡◌, length, subst, [], rules, arith}
-use Rattle.std.specs.Io.KnownBytes.{Consumes}
+use Rattle.dvd_ports.specs.Bytes.{Consumes}
 use Rattle.std.proofs.lemmas.List.{take_all}
 use Rattle.dvd_loop.proofs.StreamLemmas.{left_of}
 use Rattle.dvd_commands.proofs.opening.Headers.{whole_counts}

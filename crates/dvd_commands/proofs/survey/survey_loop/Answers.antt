@@ -24,4 +24,4 @@ returns-clause-ends g c =
     capture_end settings.form (survey_units c.args.layout.now settings.zones settings.form) (λ k own. refl) f.bytes f.outcome f.holds refl c.run_owned.result f.ends
 
 pub returns-clause-no_report : goal.returns-clause-no_report
-returns-clause-no_report g c = never_told c.run_owned.result c.run_owned.ensures.causes.report
+returns-clause-no_report g c = never_told _ _ c.run_owned.result c.run_owned.ensures.causes.report

@@ -1,6 +1,6 @@
 -- The proof of `close` in src/loops.rt.
 use Rattle.std.proofs.Common.{refl, sym, subst}
-use Rattle.std.specs.Io.KnownBytes.{Appends}
+use Rattle.dvd_ports.specs.Bytes.{Appends}
 use Rattle.dvd_ports.specs.Whole.{AppendsPrefix}
 use Rattle.dvd_loop.specs.Machine.{Closes}
 use Rattle.dvd_loop.specs.Streams.{HaveReached, streams}

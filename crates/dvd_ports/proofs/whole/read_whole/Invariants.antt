@@ -1,6 +1,6 @@
 -- What each iteration of the loop in `read_whole` keeps, and why it ends.
 use Rattle.std.proofs.Common.{length, ◌-◌}
-use Rattle.std.specs.Io.KnownBytes.{Consumes}
+use Rattle.dvd_ports.specs.Bytes.{Consumes}
 use Rattle.dvd_ports.proofs.Moving.{HasMoved}
 use Rattle.dvd_ports.proofs.whole.read_whole.Given as goal
 

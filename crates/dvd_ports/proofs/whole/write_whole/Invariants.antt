@@ -1,6 +1,6 @@
 -- What each iteration of the loop in `write_whole` keeps, and why it ends.
 use Rattle.std.proofs.Common.{length, ◌-◌}
-use Rattle.std.specs.Io.KnownBytes.{Appends}
+use Rattle.dvd_ports.specs.Bytes.{Appends}
 use Rattle.dvd_ports.proofs.Moving.{HasMoved}
 use Rattle.dvd_ports.proofs.whole.write_whole.Given as goal
 

@@ -3,7 +3,7 @@ use Rattle.std.proofs.Common.{◌≡◌, ◌∙◌, ◌==◌, ◌<◌, ◌≤◌
 use Rattle.std.specs.List.{list_all}
 use Rattle.std.proofs.lemmas.List.{get_or_default}
 use Rattle.cap_interleave.specs.Inner.{BuffersState}
-use Rattle.cap_interleave.proofs.HeldLemmas.{all_whole, first_short, none_came, some_came}
+use Rattle.cap_interleave.proofs.HeldLemmas.{all_whole, first_short, some_came}
 use Rattle.cap_interleave.proofs.buffers.Buffers.check.Goals as goal
 
 pub returns-then-is_some : goal.returns-then-is_some

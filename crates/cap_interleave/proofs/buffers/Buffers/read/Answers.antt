@@ -1,5 +1,5 @@
 -- The proof of `read` in src/buffers.rt.
-use Rattle.std.proofs.Common.{◌≡◌, ◌∙◌, ◌+◌, ◌<◌, ◌≤◌, ◌++◌, ap, sym, subst, refl, arith, length, take, slice_index, slice_set, is_some, length-append}
+use Rattle.std.proofs.Common.{◌≡◌, ◌∙◌, ◌<◌, ◌++◌, ap, sym, subst, refl, arith, length, take, slice_index, slice_set, is_some, length-append}
 use Rattle.std.proofs.lemmas.List.{get_or_default, length-take-le, with_items_is}
 use Rattle.cap_interleave.specs.Blocks.{block_written}
 use Rattle.cap_interleave.specs.Inner.{BuffersState}

@@ -1,5 +1,5 @@
 -- The proof of `Reader::end_line` in src/reader.rt.
-use Rattle.std.proofs.Common.{◌≡◌, ◌∙◌, ◌+◌, ◌≤◌, ◌++◌, ℕ, [], ◌∷◌, Ok, Err, Option, None, Some, ap, arith, subst, sym}
+use Rattle.std.proofs.Common.{◌∙◌, ◌+◌, ◌≤◌, ◌++◌, ℕ, [], ◌∷◌, Err, Option, None, Some, ap, arith, subst, sym}
 use Rattle.cap_map.specs.Fields.{lines_of}
 use Rattle.cap_lost.specs.Inner.{StopsAs, closing_count, goes_on, sayings_of}
 use Rattle.cap_lost.specs.Report.{IsFaultOf, line_read, lines_read}

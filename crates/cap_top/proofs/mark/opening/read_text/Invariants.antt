@@ -1,6 +1,6 @@
 -- What each iteration of the loop in `read_text` keeps, and what it has left: a vector has fewer than 2 ^ 63 bytes.
 use Rattle.std.proofs.Common.{◌-◌, ◌^◌, vec_len}
-use Rattle.std.specs.Io.KnownBytes.{Consumes}
+use Rattle.dvd_ports.specs.Bytes.{Consumes}
 use Rattle.dvd_ports.specs.Causes.{HasGoneOn}
 use Rattle.cap_top.proofs.mark.opening.read_text.Given as goal
 

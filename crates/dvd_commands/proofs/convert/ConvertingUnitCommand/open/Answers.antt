@@ -1,6 +1,6 @@
 -- The proof of `open` of `UnitCommand` for `Converting` in src/convert.rt.
 use Rattle.std.proofs.Common.{[], ◌∷◌, subst, sym}
-use Rattle.std.specs.Io.KnownBytes.{Appends}
+use Rattle.dvd_ports.specs.Bytes.{Appends}
 use Rattle.dvd_capture.specs.Header.{header_bytes}
 use Rattle.dvd_loop.specs.Machine.Step.{Write}
 use Rattle.dvd_loop.specs.Streams.{streams}
