@@ -2,9 +2,11 @@
 pub mod BoundKept
 pub mod ConvertedRead
 pub mod Determined
+pub mod InputEnds
 pub mod MasteredStream
 pub mod OnlyThese
 pub mod OpenedRuns
+pub mod OverTaken
 pub mod PromisesKept
 pub mod RunEnds
 pub mod RunLemmas

@@ -10,7 +10,7 @@ use Rattle.dvd_layout.specs.declared.layout.Layout.{Layout}
 use Rattle.dvd_layout.proofs.NoFault.{no_fault}
 use Rattle.dvd_loop.specs.Laws.{IsFaultless, IsOver}
 use Rattle.dvd_loop.specs.Machine.{IsOutcome, Outcome}
-use Rattle.dvd_loop.specs.Streams.{HaveMoved, AreTold, Streams}
+use Rattle.dvd_loop.specs.Streams.{HaveMoved, Streams}
 use Rattle.dvd_loop.specs.declared.ends.LoopEnd.{LoopEnd}
 use Rattle.dvd_loop.specs.declared.ends.LoopEnd.TheVariants.{Damaged, Done}
 use Rattle.dvd_ports.specs.Seen.{Seen}
@@ -21,7 +21,7 @@ use Rattle.dvd_commands.specs.Master.{master_units, bytes_of_block}
 use Rattle.dvd_commands.specs.Recover.{recover_units, IsRecovered}
 use Rattle.dvd_top.specs.Headline.{HaveFailed, IsLoop, IsRun, Reports}
 use Rattle.dvd_top.specs.Lines.{closing_line}
-use Rattle.dvd_top.specs.Promises.{GivesImage, Masters, NoneFailed, Recovers}
+use Rattle.dvd_top.specs.Promises.{GivesImage, Masters, NoneFailed, Recovers, WasInput}
 use Rattle.dvd_top.specs.Statuses.{status_of}
 use Rattle.dvd_top.specs.declared.status.Status.{Status}
 use Rattle.dvd_top.specs.declared.status.Status.TheVariants as status
@@ -32,7 +32,7 @@ use Rattle.dvd_commands.proofs.OneRun.{one_layout}
 use Rattle.dvd_commands.specs.Meaning.{GoesBy}
 use Rattle.dvd_top.proofs.MasteredStream.{image_mastered, stream_recovered}
 use Rattle.dvd_top.proofs.RunEnds.{closes_is, in_words}
-use Rattle.std.proofs.lemmas.List.{take_all}
+use Rattle.std.proofs.lemmas.List.{append_cancel_left, take_all}
 use Rattle.dvd_capture.specs.Captured.{block_size}
 use Rattle.dvd_layout.specs.Plan.{plan_of}
 use Rattle.dvd_loop.proofs.EndsBySize.{ends_so}
@@ -48,8 +48,8 @@ over_status Done over = inl refl
 over_status (Damaged blocks) over = inr refl
 over_status end over = absurd over
 
--- A run of which no call failed, over bytes that are known.
-module _ (settings : Settings) (old new : Streams) (result : Status) (run : IsRun settings old new result) (bytes : List ℕ) (known : old.source.bytes.left ≡ Some bytes) (none : NoneFailed old new) where
+-- A run of which no call failed, over these bytes.
+module _ (settings : Settings) (old new : Streams) (result : Status) (run : IsRun settings old new result) (bytes : List ℕ) (input : WasInput old new bytes) (none : NoneFailed old new) where
   -- its end is that of its loop
   same : run.line.end ≡ run.loop.end
   same = (run.complete none).1
@@ -61,8 +61,13 @@ module _ (settings : Settings) (old new : Streams) (result : Status) (run : IsRu
   -- it goes over these bytes
   goes : settings.form ≢ Listed → GoesOver settings bytes run.loop
   goes plain =
-      let is : bytes ≡ run.bytes = subst (λ b. AreTold b run.bytes) known run.known in
-      in_words settings.form settings bytes run.loop plain (subst (λ b. IsLoop settings b run.loop) (sym is) run.is_loop)
+      let runs : IsLoop settings bytes run.loop = elim input [
+        | inl known ↦ (run.known bytes known).is_loop
+        | inr returned ↦
+            let taken : run.loop.taken ≡ bytes = append_cancel_left old.source.bytes.moved run.loop.taken bytes (sym run.moved.reads.log ∙ returned) in
+            subst (λ b. IsLoop settings b run.loop) taken run.returned.is_loop
+      ] in
+      in_words settings.form settings bytes run.loop plain runs
 
   -- its closing line is reported whole
   closed : run.line.lines ≡ closing_line settings.command run.loop.end

@@ -1,17 +1,17 @@
 -- A run by its loop and its closing line.
-use Rattle.std.proofs.Common.{◌≡◌, ◌≢◌, ◌⊎◌, inl, inr, ◌++◌, Option, Some, refl, ap, sym, subst, ◌∙◌}
+use Rattle.std.proofs.Common.{◌≡◌, ◌≢◌, ◌⊎◌, inl, inr, ℕ, List, ◌++◌, Option, Some, refl, ap, sym, subst, ◌∙◌}
 use Rattle.dvd_capture.specs.declared.form.Form.TheVariants.{Listed}
 use Rattle.dvd_ports.specs.Causes.{HasGoneOn}
 use Rattle.dvd_ports.specs.Seen.{Seen}
 use Rattle.dvd_ports.proofs.KnownLemmas.{Appends-then}
 use Rattle.dvd_loop.specs.Laws.{IsFaultless}
 use Rattle.dvd_loop.specs.Machine.{Closes, Outcome}
-use Rattle.dvd_loop.specs.Streams.{HaveReached, Counts, HaveCauses, HaveMoved, Streams, is_report_fault, streams}
+use Rattle.dvd_loop.specs.Streams.{AreTold, HaveReached, Counts, HaveCauses, HaveMoved, Streams, is_report_fault, streams}
 use Rattle.dvd_loop.specs.declared.ends.LoopEnd.{LoopEnd}
 use Rattle.dvd_loop.specs.declared.ends.LoopEnd.TheVariants.{ReportFault}
 use Rattle.dvd_loop.proofs.ClosedLemmas.{causes_closed}
 use Rattle.dvd_loop.proofs.StreamLemmas.{counts_after}
-use Rattle.dvd_top.specs.Headline.{HaveFailed, IsRun}
+use Rattle.dvd_top.specs.Headline.{HaveFailed, IsLoop, IsPrescribed, IsRun}
 use Rattle.dvd_top.specs.Statuses.{status_of}
 use Rattle.dvd_top.specs.Lines.{closing_line}
 use Rattle.dvd_commands.specs.Performed.{HasLooped}
@@ -21,11 +21,24 @@ use Rattle.dvd_top.specs.declared.status.Status.{Status}
 use Rattle.dvd_top.proofs.BoundKept.{kept}
 use Rattle.dvd_commands.proofs.ForRuns.{kept_sectors}
 use Rattle.dvd_top.proofs.BoundKept.{kept_good}
+use Rattle.dvd_top.proofs.InputEnds.{all_came}
+use Rattle.dvd_top.proofs.OverTaken.{over_taken}
 use Rattle.dvd_top.proofs.RunEnds.{ended_there, in_words, remembered, risen, sound_end}
 
 -- there is one reading of words at most
 pub same_settings : (read : Option Settings) (a b : Settings) → read ≡ Some a → read ≡ Some b → a ≡ b
 same_settings read a b p q = cc
+
+-- the promises that hold of every loop over some bytes
+prescribed : (settings : Settings) (bytes : List ℕ) (loop : Outcome) → (settings.command ≡ CdRead → settings.form ≢ Listed) → IsLoop settings bytes loop
+    → IsPrescribed settings bytes loop
+prescribed settings bytes loop plain runs = record {
+  is_loop = runs;
+  all = all_came settings bytes loop runs;
+  bound = λ rescues. kept settings bytes loop rescues runs;
+  good_frames = λ is. kept_good settings bytes loop is runs;
+  sectors = λ is. kept_sectors settings bytes loop is (in_words settings.form settings bytes loop (plain is) runs);
+}
 
 -- an end is that of a failed line, or it isn't and the report hasn't failed
 report_or_not : (end : LoopEnd) → (end ≡ ReportFault) ⊎ ((end ≢ ReportFault) × ((old new : Seen) → Counts (is_report_fault end) old new → HasGoneOn old new))
@@ -75,13 +88,14 @@ module _ (settings : Settings) (old : Streams) (source output mid_report new_rep
       let comes = looped.loop.comes in
       let ends : end ≢ ReportFault → line.outcome.end ≡ comes.outcome.end = λ not. line.ends ∙ same not ∙ sym comes.ends in
       record {
-        bytes = comes.bytes;
-        known = comes.known;
         loop = comes.outcome;
-        is_loop = comes.holds;
         line = line.outcome;
         closes = subst (λ w. Closes (closing_line settings.command) w line.outcome) (sym comes.ends) line.holds;
         moved = moved;
+        returned = prescribed settings comes.outcome.taken comes.outcome plain (over_taken settings comes.bytes comes.outcome comes.holds);
+        known = λ bytes told.
+            let same_bytes : bytes ≡ comes.bytes = subst (λ l. AreTold l comes.bytes) told comes.known in
+            prescribed settings bytes comes.outcome plain (subst (λ l. IsLoop settings l comes.outcome) (sym same_bytes) comes.holds);
         is_status = is_status ∙ ap status_of (sym line.ends);
         memory = λ none. remembered end (sym is_status ∙ none);
         causes = subst (λ w. HaveCauses w line.outcome.end old new) (sym comes.ends) (subst (λ e. HaveCauses within e old new) (sym line.ends) causes);
@@ -91,7 +105,4 @@ module _ (settings : Settings) (old : Streams) (source output mid_report new_rep
               ends (λ is. subst IsFaultless is sound),
             );
         read_fault = ended_there settings comes.bytes comes.outcome comes.holds;
-        bound = λ rescues. kept settings comes.bytes comes.outcome rescues comes.holds;
-        good_frames = λ is. kept_good settings comes.bytes comes.outcome is comes.holds;
-        sectors = λ is. kept_sectors settings comes.bytes comes.outcome is (in_words settings.form settings comes.bytes comes.outcome (plain is) comes.holds);
       }

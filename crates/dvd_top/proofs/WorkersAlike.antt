@@ -6,7 +6,7 @@ use Rattle.dvd_loop.specs.Machine.{Outcome}
 use Rattle.dvd_loop.specs.Streams.{Streams}
 use Rattle.dvd_commands.specs.CdBound.{IsCorrectableSector, KeepsSectors}
 use Rattle.dvd_commands.specs.Commands.{GoesOver}
-use Rattle.dvd_top.specs.Headline.{IsLoop, IsRun}
+use Rattle.dvd_top.specs.Headline.{IsLoop, IsPrescribed, IsRun}
 use Rattle.dvd_top.specs.Laws.{WorkersChangeNothing}
 use Rattle.dvd_commands.specs.Opening.{BreaksHeader, ComesAfterHeader, Opens}
 use Rattle.dvd_commands.proofs.EachCommand.{facts_of}
@@ -79,24 +79,31 @@ module _ (workers : ℕ) where
     alone = λ user k b. keeps.alone user k (sector_back b);
   }
 
+  -- what is prescribed
+  prescribed_with : {settings : Settings} {bytes : List ℕ} {loop : Outcome} → IsPrescribed settings bytes loop → IsPrescribed (set_workers workers settings) bytes loop
+  prescribed_with {settings = settings} {bytes = bytes} {loop = loop} is =
+      let runs = loop_with settings bytes loop is.is_loop in record {
+        is_loop = runs;
+        all = is.all;
+        bound = λ rescues. kept (set_workers workers settings) bytes loop rescues runs;
+        good_frames = λ recovers. kept_good (set_workers workers settings) bytes loop recovers runs;
+        sectors = λ reads. sectors_with (is.sectors reads);
+      }
+
   -- and each run
   run_with : (settings : Settings) (old new : Streams) (result : Status) → IsRun settings old new result → IsRun (set_workers workers settings) old new result
   run_with settings old new result run = record {
-    bytes = run.bytes;
-    known = run.known;
     loop = run.loop;
-    is_loop = loop_with settings run.bytes run.loop run.is_loop;
     line = run.line;
     closes = run.closes;
     moved = run.moved;
+    returned = prescribed_with run.returned;
+    known = λ bytes told. prescribed_with (run.known bytes told);
     is_status = run.is_status;
     memory = run.memory;
     causes = run.causes;
     complete = run.complete;
     read_fault = λ failed. let (end, none, loop) = run.read_fault failed in (end, none, loop_with settings run.loop.taken (record run.loop { end = end }) loop);
-    bound = λ rescues. kept (set_workers workers settings) run.bytes run.loop rescues (loop_with settings run.bytes run.loop run.is_loop);
-    good_frames = λ is. kept_good (set_workers workers settings) run.bytes run.loop is (loop_with settings run.bytes run.loop run.is_loop);
-    sectors = λ is. sectors_with (run.sectors is);
   }
 
 -- the law: what goes for one number of workers goes for the other, and back

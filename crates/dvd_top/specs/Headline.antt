@@ -4,7 +4,7 @@ use Rattle.dvd_ports.specs.Bytes.{Appends}
 use Rattle.dvd_layout.specs.declared.fault.LayoutFault.{LayoutFault}
 use Rattle.dvd_loop.specs.Laws.{IsFaultless}
 use Rattle.dvd_loop.specs.Machine.{Closes, Outcome}
-use Rattle.dvd_loop.specs.Streams.{HaveCauses, HaveMoved, AreKnown, Streams}
+use Rattle.dvd_loop.specs.Streams.{HaveCauses, HaveMoved, Streams}
 use Rattle.dvd_loop.specs.declared.ends.LoopEnd.{LoopEnd}
 use Rattle.dvd_loop.specs.declared.ends.LoopEnd.TheVariants as ends
 use Rattle.dvd_ports.specs.Causes.{HasFailed, HasGoneOn, HasMetEnd}
@@ -19,7 +19,8 @@ use Rattle.dvd_commands.specs.Opening.{AfterHeader, Opens}
 use Rattle.dvd_top.specs.Promises.{GivesImage, Masters, NoneFailed, Recovers}
 use Rattle.dvd_top.specs.Statuses.{status_of}
 use Rattle.dvd_words.specs.Reading.{reading}
-use Rattle.dvd_words.specs.declared.table.Command.TheVariants.{CdRead, Recover}
+use Rattle.dvd_words.specs.declared.table.Command.{Command}
+use Rattle.dvd_words.specs.declared.table.Command.TheVariants.{CdRead, Exercise, Info, Recover}
 use Rattle.dvd_words.specs.declared.settings.Settings.{Settings}
 use Rattle.dvd_top.specs.declared.status.Status.{Status}
 use Rattle.dvd_top.specs.declared.status.Status.TheVariants as status
@@ -38,18 +39,42 @@ use Rattle.dvd_top.specs.declared.status.Status.TheVariants as status
 abbrev pub IsLoop : Settings → List ℕ → Outcome → Type 0
 IsLoop settings bytes outcome = Opens settings.form GoesOver settings bytes outcome
 
--- RUN. One run of a command with these settings, and what follows of this very run, whatever ended it.
+-- The input ended: within a header or a unit, or after the last unit. There every command but `info` and `exercise`
+-- reads one more byte, so that it ends as Done or Damaged only where none came.
+abbrev pub InputEnded : Command → LoopEnd → Type 0
+InputEnded command (ends.ShortHeader bytes) = Unit {0}
+InputEnded command (ends.Short unit bytes) = Unit {0}
+InputEnded command (ends.Damaged blocks) = Unit {0}
+InputEnded command ends.Done = (command ≢ Info) × (command ≢ Exercise)
+InputEnded command other = ⊥
+
+-- PRESCRIBED. What a loop did is what the command's page prescribes for an input of these bytes, and so each promise of
+-- the command holds of these bytes, whatever ended the loop.
+pub record IsPrescribed (settings : Settings) (bytes : List ℕ) (loop : Outcome) : Type 0 where
+  pub is_loop : IsLoop settings bytes loop
+  -- no bytes come after an end that was met: then these are all that was read
+  pub all : InputEnded settings.command loop.end → bytes ≡ loop.taken
+  -- `recover` and `deep`: each block within the bound (2 · bad rows + lost rows ≤ 16) that came gives its mastered
+  -- sectors, whatever became of the others; a failed write or line cuts the output where it failed
+  pub bound : Rescues settings.command → AfterHeader settings.form KeepsBound settings bytes loop
+  -- `recover`: likewise each sector whose twelve rows are good, in a block that two passes refuse
+  pub good_frames : settings.command ≡ Recover → AfterHeader settings.form KeepsGoodFrames settings bytes loop
+  -- `cdread`: likewise each CD-ROM sector that its codewords can correct (`IsCorrectableHalf`) gives its user data
+  pub sectors : settings.command ≡ CdRead → KeepsSectors settings bytes loop
+
+-- RUN. One run of a command with these settings.
 pub record IsRun (settings : Settings) (old new : Streams) (result : Status) : Type 0 where
-  -- the bytes of the input, if the source's are known; else, as of a pipe, some that begin with what its reads returned
-  pub bytes : List ℕ
-  pub known : AreKnown old.source.bytes bytes
   -- what the loop did, and then the closing line of its end, as `read fault`: none after a failed report
   pub loop : Outcome
-  pub is_loop : IsLoop settings bytes loop
   pub line : Outcome
   pub closes : Closes (closing_line settings.command) loop.end line
-  -- what was read, written and reported, and the status
+  -- The reads returned exactly the bytes `loop.taken`, of a file or a pipe too. The writes accepted exactly `loop.out`,
+  -- and of the report exactly the lines and the closing line.
   pub moved : HaveMoved old new loop.taken loop.out (loop.lines ++ line.lines)
+  -- It is what is prescribed for an input of exactly the bytes that the reads returned; and where it is known which bytes
+  -- the source had, for an input of these.
+  pub returned : IsPrescribed settings loop.taken loop
+  pub known : (bytes : List ℕ) → old.source.bytes.left ≡ Some bytes → IsPrescribed settings bytes loop
   pub is_status : result ≡ status_of line.end
   pub memory : result ≢ status.NoMemory
   -- each fault is one failed call, the last of its stream; only the closing line may fail after another fault; Short
@@ -59,13 +84,6 @@ pub record IsRun (settings : Settings) (old new : Streams) (result : Status) : T
   -- a failed read: the output, and the report up to the closing line, are those of an input that ends there
   pub read_fault : loop.end ≡ ends.ReadFault
       → (end : LoopEnd) × IsFaultless end × IsLoop settings loop.taken (record loop { end = end })
-  -- `recover` and `deep`: each block within the bound (2 · bad rows + lost rows ≤ 16) that came gives its mastered
-  -- sectors, whatever became of the others; a failed write or line cuts the output where it failed
-  pub bound : Rescues settings.command → AfterHeader settings.form KeepsBound settings bytes loop
-  -- `recover`: likewise each sector whose twelve rows are good, in a block that two passes refuse
-  pub good_frames : settings.command ≡ Recover → AfterHeader settings.form KeepsGoodFrames settings bytes loop
-  -- `cdread`: likewise each CD-ROM sector that its codewords can correct (`IsCorrectableHalf`) gives its user data
-  pub sectors : settings.command ≡ CdRead → KeepsSectors settings bytes loop
 
 -- NO RUN. The report gets one line, and the status is the one wanted; or the report failed within the line.
 abbrev pub Reports : Status → List ℕ → Seen → Seen → Status → Type 0
@@ -102,8 +120,7 @@ HaveFailed other old new =
     (HasMetEnd old.source new.source ⊎ HasGoneOn old.source new.source)
     × HasGoneOn old.output new.output × HasGoneOn old.report new.report
 
--- THE HEADLINE. The last three say the promise again with no loop or unit, on the page Promises, of streams whose bytes
--- are known, and nothing of a pipe. `master` rests on `reading`, and on `plan_of`, `data_frame`, `IsBlockOf` and
+-- THE HEADLINE. The last three say the promise again with no loop or unit, on the page Promises. `master` rests on `reading`, and on `plan_of`, `data_frame`, `IsBlockOf` and
 -- `recording`, to which docs/DEFINITIONS leads from the standard; the others also on what two passes and salvage give.
 pub record Headline {S K : Type 0} (src src_now : S) (out out_now : K)
     (words : List (List ℕ)) (old new : Streams) (result : Status) : Type 0 where

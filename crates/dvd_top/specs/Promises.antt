@@ -1,6 +1,6 @@
--- The promise in plain words, for a reader of this page alone: what `master` and `recover` give over streams whose
--- bytes are known and of which no call failed. In each there may be no memory instead, before the first byte.
-use Rattle.std.specs.Prelude.{◌≡◌, ◌⊎◌, ℕ, ◌*◌, List, length, take, drop, codes, Some, slice_get}
+-- The promise in plain words, for a reader of this page alone: what `master` and `recover` give where no call of a
+-- stream failed. In each there may be no memory instead, before the first byte.
+use Rattle.std.specs.Prelude.{◌≡◌, ◌⊎◌, ℕ, ◌*◌, ◌++◌, List, length, take, drop, codes, Some, slice_get}
 use Rattle.dvd_ports.specs.Bytes.{Appends, Consumes}
 use Rattle.std.specs.List.{flat_map}
 use Rattle.coding.specs.Product.{IsBlockOf}
@@ -29,6 +29,11 @@ pub record NoneFailed (old new : Streams) : Type 0 where
   pub output : Rose old.output.faults new.output.faults → ⊥
   pub report : Rose old.report.faults new.report.faults → ⊥
 
+-- The input was these bytes: the source is known to have them; or they are all that the reads of this run returned, as
+-- one knows of a file or a pipe.
+abbrev pub WasInput : Streams → Streams → List ℕ → Type 0
+WasInput old new bytes = (old.source.bytes.left ≡ Some bytes) ⊎ (new.source.bytes.moved ≡ old.source.bytes.moved ++ bytes)
+
 -- The stream of an image: for each block of the plan, in order, the recording of the one ECC block of its frames.
 pub record IsStreamOf (layout : Layout) (zones : Zones) (cpr image stream : List ℕ) : Type 0 where
   pub size : length stream ≡ 37_856 * length (plan_of layout zones)
@@ -41,7 +46,7 @@ pub record IsStreamOf (layout : Layout) (zones : Zones) (cpr image stream : List
 abbrev pub Masters : Settings → Streams → Streams → Status → Type 0
 Masters settings old new result =
     (layout : Layout) (image : List ℕ) → settings.command ≡ Master → IsLayoutOf settings layout
-    → old.source.bytes.left ≡ Some image → length image ≡ 2048 * total_sectors layout → NoneFailed old new
+    → WasInput old new image → length image ≡ 2048 * total_sectors layout → NoneFailed old new
     → (result ≡ status.NoMemory)
     ⊎ ((result ≡ status.Done) × ((stream : List ℕ) × IsStreamOf layout settings.zones settings.cpr image stream
     × HaveMoved old new image stream (codes "done\n")))
@@ -62,7 +67,7 @@ pub record IsImageOf (layout : Layout) (zones : Zones) (form : Form) (capture im
 abbrev pub Recovers : Settings → Streams → Streams → Status → Type 0
 Recovers settings old new result =
     (layout : Layout) (capture : List ℕ) → settings.command ≡ Recover → (settings.form ≡ Listed → ⊥)
-    → IsLayoutOf settings layout → old.source.bytes.left ≡ Some capture
+    → IsLayoutOf settings layout → WasInput old new capture
     → length capture ≡ length (plan_of layout settings.zones) * (208 * record_size settings.form)
     → NoneFailed old new → (result ≡ status.NoMemory)
     ⊎ (((result ≡ status.Done) ⊎ (result ≡ status.Damaged))
@@ -74,5 +79,5 @@ abbrev pub GivesImage : Settings → Streams → Streams → Status → Type 0
 GivesImage settings old new result =
     (layout : Layout) (cpr image stream : List ℕ) → settings.command ≡ Recover → settings.form ≡ Plain
     → IsLayoutOf settings layout → length cpr ≡ 6 → length image ≡ 2048 * total_sectors layout
-    → IsStreamOf layout settings.zones cpr image stream → old.source.bytes.left ≡ Some stream → NoneFailed old new
+    → IsStreamOf layout settings.zones cpr image stream → WasInput old new stream → NoneFailed old new
     → (result ≡ status.NoMemory) ⊎ ((result ≡ status.Done) × HaveMoved old new stream image (codes "done\n"))
