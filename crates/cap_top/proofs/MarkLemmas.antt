@@ -5,7 +5,7 @@ use Rattle.dvd_ports.specs.Seen.{Seen}
 use Rattle.dvd_loop.specs.Laws.{IsFaultless}
 use Rattle.dvd_loop.specs.Machine.{Closes, Performs, IsClosed, IsOutcome, Outcome, ended, stepping}
 use Rattle.dvd_loop.specs.Machine.Step.{Report}
-use Rattle.dvd_loop.specs.Streams.{HaveReached, Counts, HasEnded, HaveMoved, AreTold, Streams, is_report_fault, streams}
+use Rattle.dvd_loop.specs.Streams.{HaveReached, Counts, HasEnded, HaveMoved, AreLeft, Streams, is_report_fault, streams}
 use Rattle.dvd_loop.specs.declared.ends.LoopEnd.{LoopEnd}
 use Rattle.dvd_loop.specs.declared.ends.LoopEnd.TheVariants.{ReportFault}
 use Rattle.dvd_loop.proofs.ClosedLemmas.{causes_closed, closed, closes_takes}
@@ -50,7 +50,7 @@ all_marked : (spans : List Span) (old new : Streams) (within end : LoopEnd) → 
     → (end ≢ ReportFault → end ≡ within) → MarksAll spans old new end
 all_marked spans old new within end comes same bytes reported sound few =
     let is : end ≡ within = same_end end within sound same in
-    let bytes_are : bytes ≡ comes.bytes = subst (λ o. AreTold o comes.bytes) reported comes.known in
+    let bytes_are : bytes ≡ comes.bytes = subst (λ o. AreLeft o comes.bytes) reported comes.known in
     let closed = comes.holds in
     let sound_within : IsFaultless within = subst IsFaultless is sound in
     let whole = marks_whole spans comes.bytes closed.loop (subst (λ b. length b < 2366 * (2 ^ 32 - 1)) bytes_are few) closed.runs (subst IsFaultless (sym closed.ends) sound_within) in

@@ -1,4 +1,4 @@
--- Which of a block's sixteen data frames can be known to be right, and what is saved of them, also where the block is
+-- Which of a block's sixteen data frames are right by themselves, and what is saved of them, also where the block is
 -- refused (ECMA-267, clauses 16 to 18).
 use Rattle.std.specs.Prelude.{ℕ, ◌*◌, Bool, List, [], count_by, drop, map, replicate, take, if◌then◌else◌, Some, None, is_none, is_some, unwrap_or}
 use Rattle.std.specs.List.{list_any, range_with_len}

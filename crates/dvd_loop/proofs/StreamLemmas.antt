@@ -7,7 +7,7 @@ use Rattle.dvd_ports.proofs.StopLemmas.{ends_after, fails_after, goes_on, unmove
 use Rattle.dvd_ports.specs.Causes.{HasGoneOn}
 use Rattle.dvd_ports.specs.Seen.{Seen}
 use Rattle.dvd_loop.specs.Machine.{Outcome}
-use Rattle.dvd_loop.specs.Streams.{HaveReached, Counts, HasEnded, HaveCauses, HaveGoneOn, HaveMoved, AreKnown, AreTold, SourceCounts, Streams, is_report_fault, is_write_fault, streams}
+use Rattle.dvd_loop.specs.Streams.{HaveReached, Counts, HasEnded, HaveCauses, HaveGoneOn, HaveMoved, AreKnown, AreLeft, SourceCounts, Streams, is_report_fault, is_write_fault, streams}
 use Rattle.dvd_loop.specs.declared.ends.LoopEnd.{LoopEnd}
 use Rattle.dvd_loop.specs.declared.ends.LoopEnd.TheVariants.{Damaged, Done, ReadFault, Short, ShortHeader}
 use Rattle.dvd_loop.proofs.StepLemmas.{and_then, onto}
@@ -29,7 +29,7 @@ moves_on a b c taken out lines taken2 out2 lines2 p q = record {
 pub told_before : (a b : Bytes) (taken bytes : List ℕ) → Consumes a b taken → AreKnown b bytes → AreKnown a (taken ++ bytes)
 told_before a b taken bytes p t = before a.left b.left p.loses t
   where
-    before : (old new : Option (List ℕ)) → LosesKnown old new taken → AreTold new bytes → AreTold old (taken ++ bytes)
+    before : (old new : Option (List ℕ)) → LosesKnown old new taken → AreLeft new bytes → AreLeft old (taken ++ bytes)
     before None new loses known = tt
     before (Some xs) None loses known = absurd loses
     before (Some xs) (Some ys) loses known = loses ∙ ap (λ l. taken ++ l) known
@@ -38,7 +38,7 @@ told_before a b taken bytes p t = before a.left b.left p.loses t
 pub left_of : (a : Bytes) → (left : List ℕ) × AreKnown a left
 left_of a = of a.left
   where
-    of : (known : Option (List ℕ)) → (left : List ℕ) × AreTold known left
+    of : (known : Option (List ℕ)) → (left : List ℕ) × AreLeft known left
     of None = ([], tt)
     of (Some bytes) = (bytes, refl)
 
@@ -46,7 +46,7 @@ left_of a = of a.left
 pub none_left : (a : Bytes) → IsAtEnd a → AreKnown a []
 none_left a end = none a.left end
   where
-    none : (left : Option (List ℕ)) → IsKnownEnd left → AreTold left []
+    none : (left : Option (List ℕ)) → IsKnownEnd left → AreLeft left []
     none None at = tt
     none (Some bytes) at = at
 

@@ -25,14 +25,14 @@ untroubled moved = record { bytes = record { moved = moved; left = None }; fault
 abbrev pub no_stream : Seen
 no_stream = untroubled []
 
--- these are the bytes, where they are known
-abbrev pub AreTold : Option (List ℕ) → List ℕ → Type 0
-AreTold None bytes = Unit {0}
-AreTold (Some known) bytes = known ≡ bytes
+-- these bytes are left, where it is known what is left
+abbrev pub AreLeft : Option (List ℕ) → List ℕ → Type 0
+AreLeft None bytes = Unit {0}
+AreLeft (Some known) bytes = known ≡ bytes
 
--- the bytes that a source has left, where they are known, are these
+-- so it is of the bytes of a source
 abbrev pub AreKnown : Bytes → List ℕ → Type 0
-AreKnown source bytes = AreTold source.left bytes
+AreKnown source bytes = AreLeft source.left bytes
 
 -- the source has given what was read, and the output and the report have grown by what was written to them
 pub record HaveMoved (old new : Streams) (taken out lines : List ℕ) : Type 0 where

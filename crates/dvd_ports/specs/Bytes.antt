@@ -4,7 +4,7 @@ use Rattle.std.specs.Io.KnownBytes.{Consumes as LosesKnown, IsAtEnd as IsKnownEn
 
 -- The bytes that the object's calls have moved so far, in order: always known. For a source they are what its reads
 -- returned, for a sink what its writes accepted. `left` are the bytes that a source still has, where they are known: of
--- a file or a pipe nobody knows them. A sink has none to tell.
+-- a file or a pipe nobody knows them. Of a sink nothing is left.
 pub record Bytes : Type 0 where
   pub moved : List ℕ
   pub left : Option (List ℕ)

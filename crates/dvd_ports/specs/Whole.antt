@@ -5,7 +5,7 @@ use Rattle.dvd_ports.specs.Bytes.{Appends, Bytes, Consumes}
 use Rattle.dvd_ports.specs.Causes.{HasCause}
 use Rattle.dvd_ports.specs.Seen.{Seen}
 
--- where a writer of std tells its bytes, they grew by a prefix of the piece, or by all of it
+-- where it is known what a writer of std holds, that grew by a prefix of the piece, or by all of it
 pub record GainsPrefix (old new : Option (List ℕ)) (piece : List ℕ) : Type 0 where
   pub taken : List ℕ
   pub rest : List ℕ

@@ -15,7 +15,7 @@ pub struct Moved {
     pub ghost bytes: { List ℕ },
 }
 
-// A ghost field may stand only in a type that says what else it owns: here nothing.
+// Only a type that says what else it owns may have a ghost field: this one owns nothing else.
 impl Model for Moved {
     ghost also_owns = { λ _. ftrue };
 }

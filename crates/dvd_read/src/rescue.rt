@@ -1,4 +1,4 @@
-//! What is saved of a block whose rows are answered: each data frame that can be known to be right. Its candidate is
+//! What is saved of a block whose rows are answered: each data frame that is right by itself. Its candidate is
 //! the 2,064 bytes that are checked: those of the block that two passes fixed, or else of its twelve rows' answers.
 //! `HasNumbers` says that the numbers of an entry's sixteen sectors have 24 bits, as those of every plan have.
 ghost use Rattle.std.specs.Prelude.{◌≡◌, ◌<◌, ◌↔◌, IsTrue, true, length, map, not, replicate, Some, is_some, unwrap_or};
@@ -45,7 +45,7 @@ impl<'a> Held<'a> {
     }
 }
 
-/// Saves the data frames that can be known to be right, as those of an entry of a plan: of the block that two passes
+/// Saves the data frames that are right by themselves, as those of an entry of a plan: of the block that two passes
 /// fixed, or, where they refused it, of the rows' answers. Each sector is then the unscrambled Main Data of its frame,
 /// or zeros where the frame is lost. Answers how many frames are saved. The stage and all else stay.
 /// Each frame is judged by itself, so that a wrong one costs no other.
@@ -66,7 +66,7 @@ pub fn salvage(work: &mut Work, plan: &BlockPlan) -> u8
     save_frames(&held, plan, &mut work.sectors)
 }
 
-/// Writes the unscrambled Main Data of one data frame if it can be known to be right, as `salvage` does for all
+/// Writes the unscrambled Main Data of one data frame if it is right by itself, as `salvage` does for all
 /// sixteen, or else zeros. Answers whether the frame is saved.
 /// It is for callers that ask which frames are saved, and not only how many. `work` stays. The scrambling bytes are
 /// made for this frame alone, since nothing is kept between calls.
@@ -163,7 +163,7 @@ fn copy_candidate(held: &Held<'_>, f: usize, frame: &mut [u8; 2064]) -> bool
 }
 
 // Writes frame `f` of the rows' answers, if all twelve rows have one. Answers whether they have. A failed row leaves
-// 172 bytes unknown, so that the frame can't be known to be right. `frame` may have been written in part then.
+// 172 bytes unknown, so that the frame isn't right by itself. `frame` may have been written in part then.
 fn copy_answered(answers: &[AnswerRow], f: usize, frame: &mut [u8; 2064]) -> bool
     requires rows { length answers.now ≡ 208 }
     requires frame { f < 16 }

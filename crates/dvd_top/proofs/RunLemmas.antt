@@ -6,7 +6,7 @@ use Rattle.dvd_ports.specs.Seen.{Seen}
 use Rattle.dvd_ports.proofs.KnownLemmas.{Appends-then}
 use Rattle.dvd_loop.specs.Laws.{IsFaultless}
 use Rattle.dvd_loop.specs.Machine.{Closes, Outcome}
-use Rattle.dvd_loop.specs.Streams.{AreTold, HaveReached, Counts, HaveCauses, HaveMoved, Streams, is_report_fault, streams}
+use Rattle.dvd_loop.specs.Streams.{AreLeft, HaveReached, Counts, HaveCauses, HaveMoved, Streams, is_report_fault, streams}
 use Rattle.dvd_loop.specs.declared.ends.LoopEnd.{LoopEnd}
 use Rattle.dvd_loop.specs.declared.ends.LoopEnd.TheVariants.{ReportFault}
 use Rattle.dvd_loop.proofs.ClosedLemmas.{causes_closed}
@@ -94,7 +94,7 @@ module _ (settings : Settings) (old : Streams) (source output mid_report new_rep
         moved = moved;
         returned = prescribed settings comes.outcome.taken comes.outcome plain (over_taken settings comes.bytes comes.outcome comes.holds);
         known = λ bytes told.
-            let same_bytes : bytes ≡ comes.bytes = subst (λ l. AreTold l comes.bytes) told comes.known in
+            let same_bytes : bytes ≡ comes.bytes = subst (λ l. AreLeft l comes.bytes) told comes.known in
             prescribed settings bytes comes.outcome plain (subst (λ l. IsLoop settings l comes.outcome) (sym same_bytes) comes.holds);
         is_status = is_status ∙ ap status_of (sym line.ends);
         memory = λ none. remembered end (sym is_status ∙ none);

@@ -28,7 +28,7 @@ use dvd_ports::SliceSource;
 use dvd_read::{Fixed, two_pass};
 use std::alloc::Global;
 
-/// What two passes over a captured block came to. C sees its fields in this order, as include/dvdecc.h declares them.
+/// What two passes over a captured block came to. C sees its fields in this order, as dvdecc.h declares them.
 #[repr(C)]
 #[derive(Clone, Copy)]
 pub struct Report {
@@ -122,7 +122,7 @@ pub(crate) fn report_found(fixed: Fixed) -> Report
 // Reports the number of a cause. Answers its status. Two passes have the first three causes; the others are those of
 // data frames, for `dvdecc_read_block`. One call for both, so that a cause has one status. Which ID was found isn't
 // reported: there is one number, that of the frame. The other two are 0: a `Cause` has no counts, and
-// include/dvdecc.h promises them after DVDECC_OK alone.
+// dvdecc.h promises them after DVDECC_OK alone.
 pub(crate) fn report_cause(cause: Cause, report: &mut Report) -> u32
     ensures status { result ≡ cause_status cause }
     ensures report { report.new ≡ record { corrected = 0; failed_rows = 0; number = cause_number cause } }

@@ -76,7 +76,7 @@ pub extern "C" fn dvdecc_read_frame(
     }
 }
 
-// The rule of a number. The numbers are those of `dvdecc_rule` in include/dvdecc.h, and callers rest on them. C may
+// The rule of a number. The numbers are those of `dvdecc_rule` in dvdecc.h, and callers rest on them. C may
 // pass any number, and one that names no rule would be no `Rule`: so a rule isn't a parameter itself.
 fn numbered(rule: u32) -> Option<Rule>
     ensures { result ≡ rule_numbered rule }

@@ -1,6 +1,6 @@
 //! The codec as functions for C: each export does what a call of the crates below does, and its contract says so again.
 //!
-//! Nothing here is required of a caller but that memory is as include/dvdecc.h declares it: what can be tested has a
+//! Nothing here is required of a caller but that memory is as dvdecc.h declares it: what can be tested has a
 //! status. A status is a function of the definitions, and after another status than 0 each buffer of the caller is as
 //! it was, but for the numbers that say why.
 //!

@@ -15,7 +15,7 @@ use crate::status;
 use crate::words::{Correction, dvdecc_row_decode};
 use dvd_block::parts::rows_parity;
 
-/// What the decoding of one of many words came to. C sees its fields in this order, as include/dvdecc.h declares them.
+/// What the decoding of one of many words came to. C sees its fields in this order, as dvdecc.h declares them.
 #[repr(C)]
 #[derive(Clone, Copy)]
 pub struct Answer {

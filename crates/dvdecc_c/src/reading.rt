@@ -63,7 +63,7 @@ pub extern "C" fn dvdecc_read_block(
     }
 }
 
-/// Writes the sectors of a captured block whose data frames can be known to be right, and zeros for the others. `id`
+/// Writes the sectors of a captured block whose data frames are right by themselves, and zeros for the others. `id`
 /// names the first frame. A byte of `saved` is 1 where the frame is salvaged, else 0: a sector of zeros may be one that
 /// was saved, so a count wouldn't say which. Where none is saved the status is OK too.
 #[unsafe(no_mangle)]
@@ -123,7 +123,7 @@ fn plan_of(id: u32, rule: u32) -> Result<BlockPlan, u32>
     ensures asked { result ≡ asked_block id rule }
     ensures numbers { HasAsked result }
 {
-    // The numbers are those of `dvdecc_rule` in include/dvdecc.h: 0 scrambles all of Main Data, 1 none, 2 the first 160
+    // The numbers are those of `dvdecc_rule` in dvdecc.h: 0 scrambles all of Main Data, 1 none, 2 the first 160
     // bytes. The first frame of a block has 0, and then all sixteen have it; or it has 2, in the Reference Code Zone,
     // and then the other fifteen have 1. No block begins with 1.
     let content = match rule {

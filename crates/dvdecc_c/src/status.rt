@@ -1,5 +1,5 @@
 //! What the calls answer: one number for each reason, in all calls. None is ever given another meaning. Any numbers
-//! would do but that 0 is success; these are the ones that include/dvdecc.h has, and clauses name some of them.
+//! would do but that 0 is success; these are the ones that dvdecc.h has, and clauses name some of them.
 
 /// All was done.
 pub const OK: u32 = 0;

@@ -15,7 +15,7 @@ use crate::status;
 use rs_code::{Code, Pi, Po};
 use rs_decode::decode;
 
-/// What the decoding of a word corrected. C sees its fields in this order, as include/dvdecc.h declares them. It is
+/// What the decoding of a word corrected. C sees its fields in this order, as dvdecc.h declares them. It is
 /// written only where a codeword is near.
 #[repr(C)]
 #[derive(Clone, Copy)]
