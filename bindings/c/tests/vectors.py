@@ -1,7 +1,7 @@
 #!/usr/bin/env python3
-"""Writes library/tests/vectors.h: what other means than the codec give for fixed bytes.
+"""Writes bindings/c/tests/vectors.h: what other means than the codec give for fixed bytes.
 
-usage: library/tests/vectors.py >library/tests/vectors.h
+usage: bindings/c/tests/vectors.py >bindings/c/tests/vectors.h
 
 Nothing here is taken from the codec: products are made bit by bit, parity by solving no equation but by dividing by the
 product of (x + alpha^k), EDCs by dividing bit by bit, scrambling by the circuit of ECMA-267, 17.
@@ -111,7 +111,7 @@ def listed(name, data):
 
 
 def main():
-    print("/* Written by library/tests/vectors.py: what other means than the codec give for fixed bytes. */")
+    print("/* Written by bindings/c/tests/vectors.py: what other means than the codec give for fixed bytes. */")
     listed("row_parity", parity(counted(172, 5, 3), 10))
     listed("column_parity", parity(counted(192, 9, 1), 16))
     listed("edc_of_counted", edc(counted(2060, 3, 8)))

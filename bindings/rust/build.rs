@@ -1,4 +1,4 @@
-//! Links libdvdecc.a from the folder that DVDECC_LIBRARY_FOLDER names, where `./install --library` or library/build put it.
+//! Links libdvdecc.a from the folder that DVDECC_LIBRARY_FOLDER names, where `./install --library` or bindings/c/build put it.
 
 fn main() {
     println!("cargo:rerun-if-env-changed=DVDECC_LIBRARY_FOLDER");

@@ -1,6 +1,6 @@
 //! The codes, frames and blocks of DVDs and the sectors of CD-ROMs, by the C library libdvdecc.
 //!
-//! Each function of the library is proved to do what include/dvdecc.h promises. The functions here pass it references of the
+//! Each function of the library is proved to do what bindings/c/dvdecc.h promises. The functions here pass it references of the
 //! right lengths, which cannot overlap or change during a call, so what the header asks of a caller is kept by their types.
 //! They are tested and not proved.
 
@@ -77,7 +77,7 @@ pub mod ffi {
 /// A status other than 0, and the number that comes with it, or 0.
 #[derive(Clone, Copy, Debug, PartialEq, Eq)]
 pub struct Refusal {
-    /// One of the statuses of include/dvdecc.h.
+    /// One of the statuses of bindings/c/dvdecc.h.
     pub status: u32,
     /// The number that comes with this status, or 0.
     pub number: u32,

@@ -1,6 +1,6 @@
 """The codes, frames and blocks of DVDs and the sectors of CD-ROMs, by the C library libdvdecc.
 
-Each function of the library is proved to do what include/dvdecc.h promises. This module passes it buffers of the right
+Each function of the library is proved to do what bindings/c/dvdecc.h promises. This module passes it buffers of the right
 lengths and copies what comes back; it is tested and not proved. Arguments are `bytes` or anything like them, and none is
 changed. Where a call has a status other than OK, `DvdeccError` is raised with it.
 
