@@ -1,7 +1,16 @@
 """Each call of the module once, with damage at the bound and beyond, and with arguments of wrong lengths."""
 
+import array
+import copy
+import doctest
+import mmap
+import multiprocessing
 import os
+import pickle
+import shutil
+import subprocess
 import sys
+import tempfile
 import unittest
 
 sys.path.insert(0, os.path.join(os.path.dirname(os.path.abspath(__file__)), "..", "c", "tests"))
@@ -56,17 +65,154 @@ class Calls(unittest.TestCase):
             self.assertRaises(ValueError, decode, damaged, [size])
 
     def test_many_rows(self):
-        sent = dvdecc.rows_parity(bytes(vectors.counted(182 * 9, 3, 1)))
+        sent = bytearray(vectors.counted(182 * 9, 3, 1))
+        self.assertIsNone(dvdecc.rows_parity(sent))
         self.assertEqual(sent[182:364], dvdecc.row_parity(sent[182:364]))
         damaged, lost = bytearray(sent), bytearray(182 * 9)
         damaged[5] ^= 1
         damaged[182 * 4], lost[182 * 4] = 7, 1
         damaged[182 * 8 : 182 * 8 + 80] = bytes(80)
-        rows, fixes = dvdecc.rows_decode(damaged, lost)
-        self.assertEqual(rows[: 182 * 8], sent[: 182 * 8])
-        self.assertEqual(fixes, [(1, 0), (0, 0), (0, 0), (0, 0), (0, 1), (0, 0), (0, 0), (0, 0), None])
-        self.assertEqual(dvdecc.rows_decode(b""), (b"", []))
-        self.assertRaises(ValueError, dvdecc.rows_decode, bytes(183))
+        wanted = sent[: 182 * 8] + damaged[182 * 8 :]
+        for form in lost, [182 * 4], {182 * 4}, memoryview(lost):
+            rows = bytearray(damaged)
+            answers = dvdecc.rows_decode(rows, form)
+            self.assertEqual(rows, wanted)
+            self.assertEqual(list(answers.statuses), [0] * 8 + [1])
+            self.assertEqual(list(answers.errors), [1] + [0] * 8)
+            self.assertEqual(answers.erasures.tolist(), [0, 0, 0, 0, 1, 0, 0, 0, 0])
+        self.assertEqual([list(it) for it in dvdecc.rows_decode(bytearray())], [[], [], []])
+        dvdecc.rows_parity(bytearray())
+        # (a call that marks nothing is made of several)
+        many = bytearray(sent[:182] * 5000)
+        for i in 0, 2047, 2048, 4999:
+            many[182 * i + i % 182] ^= 0x55
+        answers = dvdecc.rows_decode(memoryview(many))
+        self.assertEqual(many, sent[:182] * 5000)
+        self.assertEqual([i for i, errors in enumerate(answers.errors) if errors], [0, 2047, 2048, 4999])
+        for call in dvdecc.rows_parity, dvdecc.rows_decode:
+            self.assertRaises(ValueError, call, bytearray(183))
+            self.assertRaises(TypeError, call, bytes(182))
+            self.assertRaises(TypeError, call, memoryview(bytearray(364))[::2])
+        self.assertRaises(ValueError, dvdecc.rows_decode, bytearray(364), bytes(182))
+        self.assertRaises(ValueError, dvdecc.rows_decode, bytearray(364), [364])
+
+    def test_lost_places(self):
+        """Both forms of lost places mean the same to each call, and nothing is both."""
+        row = dvdecc.row_parity(bytes(vectors.counted(172, 5, 3)) + bytes(10))
+        column = dvdecc.column_parity(bytes(vectors.counted(192, 5, 3)) + bytes(16))
+        for word, r, decode in (
+            (row, 10, dvdecc.row_decode),
+            (column, 16, dvdecc.column_decode),
+            (row, 10, lambda word, lost: dvdecc.rs_decode(word, 10, lost)),
+        ):
+            places = [11 * k for k in range(r)]
+            damaged = bytearray(word)
+            mask = bytearray(len(word))
+            for place in places:
+                damaged[place] ^= 0xA5
+                mask[place] = 200
+            numbered = array.array("B", mask)
+            for lost in places, tuple(places), range(0, 11 * r, 11), iter(places), bytes(mask), mask, memoryview(mask), numbered:
+                self.assertEqual(decode(damaged, lost), (word, 0, r))
+            for lost in bytes(places), bytes(len(word) - 1), bytes(len(word) + 1), [-1], [len(word)]:
+                self.assertRaises(ValueError, decode, damaged, lost)
+            for lost in 3, 1.5, None, "place", ["0"], [1.0], [True], array.array("I", places), array.array("H", [0] * len(word)):
+                self.assertRaises(TypeError, decode, damaged, lost)
+
+    def test_what_is_data(self):
+        """Anything with a buffer of bytes is data; numbers, lists, texts and larger items aren't."""
+        row = dvdecc.row_parity(bytes(vectors.counted(182, 3, 1)))
+        spread = bytearray(364)
+        spread[::2] = row
+        with tempfile.TemporaryFile() as file:
+            file.write(row)
+            file.flush()
+            with mmap.mmap(file.fileno(), 182, access=mmap.ACCESS_READ) as mapped:
+                self.assertTrue(dvdecc.row_is_codeword(mapped))
+        for data in bytearray(row), memoryview(row), memoryview(bytearray(row)), array.array("B", row), memoryview(spread)[::2]:
+            self.assertTrue(dvdecc.row_is_codeword(data))
+            self.assertEqual(dvdecc.row_parity(data), row)
+            self.assertEqual(dvdecc.row_decode(data), (row, 0, 0))
+            self.assertEqual(dvdecc.edc(data), dvdecc.edc(row))
+        self.assertTrue(dvdecc.row_is_codeword(memoryview(row).cast("B", (2, 91))))
+        frame = dvdecc.make_frame(0, bytes(2048))
+        calls = {
+            182: [dvdecc.row_parity, dvdecc.row_is_codeword, dvdecc.row_decode, dvdecc.rows_parity, dvdecc.rows_decode],
+            208: [dvdecc.column_parity, dvdecc.column_is_codeword, dvdecc.column_decode],
+            10: [dvdecc.edc, dvdecc.cd_edc, lambda it: dvdecc.rs_parity(it, 2), lambda it: dvdecc.rs_decode(it, 2)],
+            208 * 182: [dvdecc.block_parity, dvdecc.block_is_codeword],
+            42640: [dvdecc.two_pass, lambda it: dvdecc.read_block(it, 0), lambda it: dvdecc.salvage_block(it, 0)],
+            2048: [lambda it: dvdecc.scramble(0, it), lambda it: dvdecc.make_frame(0, it), lambda it: dvdecc.cd_make(0, it)],
+            6: [lambda it: dvdecc.make_frame(0, bytes(2048), it)],
+            2064: [lambda it: dvdecc.read_frame(it, 0)],
+            2352: [lambda it: dvdecc.cd_check(it, 0), lambda it: dvdecc.cd_repair(it, 0)],
+        }
+        for size, named in calls.items():
+            for call in named:
+                for data in size, True, 1.0, None, [0] * size, "x" * size, array.array("H", [0] * (size // 2)):
+                    self.assertRaises(TypeError, call, data)
+                if size != 10:
+                    self.assertRaises(ValueError, call, bytearray(size - 1))
+        for value in 1.5, True, None, "1", b"1":
+            self.assertRaises(TypeError, dvdecc.ied, value)
+            self.assertRaises(TypeError, dvdecc.rs_parity, bytes(10), value)
+            self.assertRaises(TypeError, dvdecc.read_frame, frame, 0, value)
+            self.assertRaises(TypeError, dvdecc.cd_make, value, bytes(2048))
+        for value in -1, 2**32:
+            self.assertRaises(ValueError, dvdecc.ied, value)
+
+    def test_errors(self):
+        """An error passes between processes, says what it means, and keeps what this module doesn't know."""
+        for error in DvdeccError(1), DvdeccError(6, 17), DvdeccError(17, 3), DvdeccError(99):
+            again = pickle.loads(pickle.dumps(error))
+            self.assertIs(type(again), DvdeccError)
+            self.assertEqual((again.status, again.number, str(again)), (error.status, error.number, str(error)))
+            self.assertEqual(str(copy.copy(error)), str(error))
+        self.assertIs(DvdeccError(1).status, Status.UNCORRECTABLE)
+        self.assertEqual(DvdeccError(17).status, 17)
+        self.assertEqual(str(DvdeccError(1)), "UNCORRECTABLE: no codeword is near the word")
+        self.assertEqual(str(DvdeccError(6, 17)), "ROWS: more than 16 rows of the block have no codeword near (number 17)")
+        self.assertEqual(str(DvdeccError(17, 3)), "status 17, which this module doesn't know (number 3)")
+        for status in Status:
+            self.assertIn(status.name, str(DvdeccError(status)))
+        noise = bytes(vectors.counted(182, 7, 1))
+        # (a pool that can't read an error of its own waits for ever: the processes that are left then end with this one)
+        with multiprocessing.Pool(2) as pool:
+            result = pool.map_async(dvdecc.row_decode, [noise, noise])
+            with self.assertRaises(DvdeccError) as raised:
+                result.get(timeout=60)
+        self.assertEqual(raised.exception.status, Status.UNCORRECTABLE)
+
+    def test_names(self):
+        public = {name for name in vars(dvdecc) if name[0] != "_" and not isinstance(getattr(dvdecc, name), type(os))}
+        imported = {"annotations", "TYPE_CHECKING", "Any", "Callable", "Iterable", "NamedTuple", "Optional", "Union"}
+        self.assertEqual(sorted(public - imported), dvdecc.__all__)
+
+    def imported(self, library, folder=None):
+        """What an import of the module prints, by a library or without one."""
+        environment = {**os.environ, "DVDECC_LIBRARY": library}
+        path = folder or os.path.dirname(os.path.dirname(os.path.abspath(dvdecc.__file__)))
+        code = "import dvdecc; print(dvdecc._library._name)"
+        return subprocess.run([sys.executable, "-c", code], cwd=path, env=environment, capture_output=True, text=True)
+
+    def test_where_the_library_is(self):
+        right = dvdecc._library._name
+        with tempfile.TemporaryDirectory() as folder:
+            shutil.copytree(os.path.dirname(os.path.abspath(dvdecc.__file__)), os.path.join(folder, "dvdecc"))
+            beside = os.path.join(folder, "dvdecc", "libdvdecc.so.0")
+            if not os.path.exists(beside):
+                os.symlink(os.path.abspath(right), beside)
+            self.assertEqual(self.imported("", folder).stdout.strip(), beside)
+            self.assertEqual(self.imported(right, folder).stdout.strip(), right)
+            missing = self.imported(os.path.join(folder, "none.so"), folder)
+            self.assertIn("ImportError: the C library isn't found", missing.stderr)
+            self.assertIn("none.so", missing.stderr)
+        other = self.imported("libc.so.6")
+        self.assertIn("ImportError: libc.so.6 isn't the library of this module: it has no dvdecc_edc", other.stderr)
+
+    def test_pages(self):
+        page = os.path.join(os.path.dirname(os.path.abspath(__file__)), "README.md")
+        self.assertEqual(doctest.testfile(page, module_relative=False).failed, 0)
 
     def test_any_length(self):
         for size, r in ((2, 1), (6, 2), (204, 16), (32, 4), (255, 32), (255, 1), (40, 31)):
