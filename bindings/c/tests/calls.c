@@ -89,8 +89,6 @@ static void columns(void) {
 
 static void lists(void) {
     uint8_t many[5][182], right[5][182], lost[5][182] = {{0}};
-    /* (before C23 an array of arrays isn't taken as one of const arrays) */
-    const uint8_t(*marks)[182] = (const uint8_t(*)[182])lost;
     struct dvdecc_answer answers[6];
     for (unsigned i = 0; i < 5; i++) {
         count(many[i], 182, 3, i);
@@ -99,10 +97,10 @@ static void lists(void) {
     memcpy(right, many, sizeof many);
     many[1][5] ^= 9, many[3][0] = 7, lost[3][0] = 1;
     memset(many[4], 0x5A, 90);
-    holds(dvdecc_rows_decode(many, 5, marks, 4, answers, 5) == DVDECC_BAD_LENGTH, "fewer marks than rows");
-    holds(dvdecc_rows_decode(many, 5, marks, 5, answers, 6) == DVDECC_BAD_LENGTH, "more answers than rows");
+    holds(dvdecc_rows_decode(many, 5, lost, 4, answers, 5) == DVDECC_BAD_LENGTH, "fewer marks than rows");
+    holds(dvdecc_rows_decode(many, 5, lost, 5, answers, 6) == DVDECC_BAD_LENGTH, "more answers than rows");
     holds(many[1][5] == (right[1][5] ^ 9), "a refused list is as it was");
-    holds(dvdecc_rows_decode(many, 5, marks, 5, answers, 5) == DVDECC_OK, "five rows");
+    holds(dvdecc_rows_decode(many, 5, lost, 5, answers, 5) == DVDECC_OK, "five rows");
     holds(memcmp(many, right, 4 * 182) == 0, "four rows are as they were");
     holds(answers[1].correction.errors == 1 && answers[3].correction.erasures == 1, "what was corrected in each");
     holds(answers[0].status == DVDECC_OK && answers[4].status == DVDECC_UNCORRECTABLE, "the status of each");
@@ -167,16 +165,17 @@ static void record(void) {
 
 /* The block is a codeword, and isn't where rows alone or columns alone are. */
 static void whole_blocks(void) {
-    const uint8_t(*rows)[182] = (const uint8_t(*)[182])block;
+    /* (arrays of both kinds are taken, with no cast) */
+    static const uint8_t zeros[208][182] = {{0}};
     uint8_t column[208], kept[182], last = block[207][181];
-    holds(dvdecc_block_is_codeword(rows), "a block with its parity is a codeword");
+    holds(dvdecc_block_is_codeword(block), "a block with its parity is a codeword");
     block[207][181] ^= 1;
-    holds(!dvdecc_block_is_codeword(rows), "one with a wrong last byte is none");
+    holds(!dvdecc_block_is_codeword(block), "one with a wrong last byte is none");
     block[207][181] = last;
     memcpy(kept, block[40], 182);
     block[40][9] ^= 1;
     dvdecc_row_parity(block[40]);
-    holds(!dvdecc_block_is_codeword(rows), "nor is one of which only the rows are codewords");
+    holds(!dvdecc_block_is_codeword(block), "nor is one of which only the rows are codewords");
     memcpy(block[40], kept, 182);
     for (unsigned i = 0; i < 208; i++) {
         column[i] = block[i][9];
@@ -188,11 +187,12 @@ static void whole_blocks(void) {
         block[i][9] = column[i];
         column[i] = byte;
     }
-    holds(!dvdecc_block_is_codeword(rows), "nor is one of which only the columns are");
+    holds(!dvdecc_block_is_codeword(block), "nor is one of which only the columns are");
     for (unsigned i = 0; i < 208; i++) {
         block[i][9] = column[i];
     }
-    holds(dvdecc_block_is_codeword(rows), "and the block as it was is one");
+    holds(dvdecc_block_is_codeword(block), "and the block as it was is one");
+    holds(dvdecc_block_is_codeword(zeros), "and so is one of zeros");
 }
 
 static void blocks(void) {
@@ -449,7 +449,15 @@ static void sectors(void) {
     holds(dvdecc_cd_repair(sector, 4000000000u, &number) == DVDECC_BAD_ADDRESS, "address 4,000,000,000 repaired");
 }
 
+static void version(void) {
+    char numbers[40];
+    sprintf(numbers, "%d.%d.%d", DVDECC_VERSION_MAJOR, DVDECC_VERSION_MINOR, DVDECC_VERSION_PATCH);
+    holds(strcmp(numbers, DVDECC_VERSION) == 0, "the numbers of the version are its text");
+    holds(DVDECC_VERSION_NUMBER >= 10100, "the number of the version");
+}
+
 int main(void) {
+    version();
     checks();
     rows();
     columns();

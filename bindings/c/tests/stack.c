@@ -8,6 +8,8 @@
 enum { SIZE = 1 << 18, PROMISED = 96 << 10, PATTERN = 0xA5 };
 static uint8_t stack[SIZE] __attribute__((aligned(4096)));
 static uint8_t capture[42640], block[208][182], sectors[16][2048];
+/* (what is answered is of no matter here) */
+static uint32_t answers;
 static uint8_t frame[2064], main_data[2048], sector[2352], word[255], lost[255];
 
 static void *calls(void *argument) {
@@ -21,7 +23,7 @@ static void *calls(void *argument) {
         memcpy(block[i], frame + 172 * (i % 12), 172);
     }
     dvdecc_block_parity(block);
-    dvdecc_block_is_codeword((const uint8_t(*)[182])block);
+    answers += dvdecc_block_is_codeword(block);
     for (unsigned m = 0; m < 208; m++) {
         memcpy(capture + 205 * m, block[(m + 1) % 13 == 0 ? 191 + (m + 1) / 13 : m - m / 13], 182);
         for (unsigned e = 0; e < m % 6; e++) {
@@ -29,20 +31,20 @@ static void *calls(void *argument) {
         }
     }
     memset(capture + 205 * 40 + 182, 0xFF, 23);
-    dvdecc_two_pass(capture, block, &report);
-    dvdecc_read_block(capture, 0x30000, DVDECC_WHOLE, sectors, &report);
-    dvdecc_salvage_block(capture, 0x30000, DVDECC_WHOLE, sectors, saved);
+    answers += dvdecc_two_pass(capture, block, &report);
+    answers += dvdecc_read_block(capture, 0x30000, DVDECC_WHOLE, sectors, &report);
+    answers += dvdecc_salvage_block(capture, 0x30000, DVDECC_WHOLE, sectors, saved);
     for (unsigned m = 0; m < 17; m++) {
         memset(capture + 205 * m + 182, 0xFF, 23);
     }
-    dvdecc_salvage_block(capture, 0x30000, DVDECC_WHOLE, sectors, saved);
+    answers += dvdecc_salvage_block(capture, 0x30000, DVDECC_WHOLE, sectors, saved);
     dvdecc_make_frame(0x30000, cpr, DVDECC_WHOLE, main_data, frame);
-    dvdecc_read_frame(frame, 0x30000, DVDECC_WHOLE, main_data, &number);
+    answers += dvdecc_read_frame(frame, 0x30000, DVDECC_WHOLE, main_data, &number);
     dvdecc_cd_make(1, main_data, sector);
     sector[99] ^= 1;
-    dvdecc_cd_repair(sector, 1, &number);
+    answers += dvdecc_cd_repair(sector, 1, &number);
     word[3] = 1;
-    dvdecc_rs_decode(word, 255, lost, 255, 32, &correction);
+    answers += dvdecc_rs_decode(word, 255, lost, 255, 32, &correction);
     dvdecc_edc(capture, sizeof capture, word);
     return argument;
 }
