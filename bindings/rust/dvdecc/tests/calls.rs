@@ -1,5 +1,5 @@
 //! Each call once, with damage that it bears, with more, and with arguments out of range.
-use dvdecc_sys::*;
+use dvdecc::*;
 
 fn counted<const N: usize>(step: usize) -> [u8; N] {
     std::array::from_fn(|k| (step * k + k / 256) as u8)
@@ -26,7 +26,7 @@ fn words() {
     assert_eq!(row_decode(&mut row, &[0; 182]), Ok(Correction { errors: 1, erasures: 0 }));
     assert_eq!(column_decode(&mut column, &lost), Ok(Correction { errors: 0, erasures: 1 }));
     assert!(row == sent && column == whole);
-    assert_eq!(row_decode(&mut row, &[1; 182]), Err(Refusal { status: 1, number: 0 }));
+    assert_eq!(row_decode(&mut row, &[1; 182]), Err(Error { status: Status::Uncorrectable, number: 0 }));
     assert_eq!(row, sent);
 
     let mut word = counted::<50>(7);
@@ -35,8 +35,8 @@ fn words() {
     word[49] ^= 4;
     assert_eq!(rs_decode(&mut word, &[0; 50], 8), Ok(Correction { errors: 1, erasures: 0 }));
     assert_eq!(word, sent);
-    assert_eq!(rs_decode(&mut word, &[0; 49], 8).unwrap_err().status, 5);
-    assert_eq!(rs_parity(&mut word, 33).unwrap_err().status, 5);
+    assert_eq!(rs_decode(&mut word, &[0; 49], 8).unwrap_err().status, Status::BadLength);
+    assert_eq!(rs_parity(&mut word, 33).unwrap_err().status, Status::BadLength);
 }
 
 #[test]
@@ -47,8 +47,11 @@ fn many_rows() {
     rows[2][9] ^= 1;
     rows_decode(&mut rows, &[[0; 182]; 3], &mut answers).unwrap();
     assert_eq!(rows, sent);
-    assert_eq!(answers[2].correction.errors, 1);
-    assert_eq!(rows_decode(&mut rows, &[[0; 182]; 2], &mut answers).unwrap_err().status, 5);
+    assert_eq!(outcome(&answers[2]), Ok(Correction { errors: 1, erasures: 0 }));
+    rows[1][..80].fill(0x5A);
+    rows_decode(&mut rows, &[[0; 182]; 3], &mut answers).unwrap();
+    assert_eq!(outcome(&answers[1]), Err(Error { status: Status::Uncorrectable, number: 0 }));
+    assert_eq!(rows_decode(&mut rows, &[[0; 182]; 2], &mut answers).unwrap_err().status, Status::BadLength);
 }
 
 // The capture of a block with no marks.
@@ -76,7 +79,7 @@ fn blocks() {
     for m in 0..17 {
         capture[205 * m + 182..205 * m + 205].fill(0xFF);
     }
-    assert_eq!(two_pass(&capture, &mut found), Err(Refusal { status: 6, number: 17 }));
+    assert_eq!(two_pass(&capture, &mut found), Err(Error { status: Status::Rows, number: 17 }));
 }
 
 #[test]
@@ -92,7 +95,7 @@ fn sectors_of_a_block() {
     block_parity(&mut rows);
     let mut capture = recorded(&rows);
     let other = read_block(&capture, 0x30010, Rule::Whole, &mut sectors);
-    assert_eq!(other, Err(Refusal { status: 10, number: 0 }));
+    assert_eq!(other, Err(Error { status: Status::Id, number: 0 }));
     assert_eq!(sectors, [[7; 2048]; 16]);
     capture[7] ^= 1;
     assert_eq!(read_block(&capture, 0x30000, Rule::Whole, &mut sectors).unwrap().corrected, 1);
@@ -101,11 +104,11 @@ fn sectors_of_a_block() {
         capture[205 * m + 182..205 * m + 205].fill(0xFF);
     }
     let lost = read_block(&capture, 0x30000, Rule::Whole, &mut sectors);
-    assert_eq!(lost, Err(Refusal { status: 6, number: 17 }));
+    assert_eq!(lost, Err(Error { status: Status::Rows, number: 17 }));
     assert_eq!(salvage_block(&capture, 0x30000, Rule::Whole, &mut sectors), Ok(std::array::from_fn(|f| f >= 2)));
     assert!(sectors[..2] == [[0; 2048]; 2] && sectors[2..] == sent[2..]);
-    assert_eq!(read_block(&capture, 0x30000, Rule::Off, &mut sectors).unwrap_err().status, 3);
-    assert_eq!(salvage_block(&capture, 0xFFFFF1, Rule::Whole, &mut sectors).unwrap_err().status, 16);
+    assert_eq!(read_block(&capture, 0x30000, Rule::Off, &mut sectors).unwrap_err().status, Status::BadRule);
+    assert_eq!(salvage_block(&capture, 0xFFFFF1, Rule::Whole, &mut sectors).unwrap_err().status, Status::BadId);
 }
 
 #[test]
@@ -116,11 +119,26 @@ fn frames_and_sectors() {
     assert_eq!(main_data, frame[12..2060]);
     read_frame(&frame, 0x30010, Rule::Whole, &mut main_data).unwrap();
     assert_eq!(main_data, counted::<2048>(13));
-    assert_eq!(read_frame(&frame, 0, Rule::Whole, &mut main_data), Err(Refusal { status: 10, number: 0x30010 }));
+    assert_eq!(read_frame(&frame, 0, Rule::Whole, &mut main_data), Err(Error { status: Status::Id, number: 0x30010 }));
     cd_make(150, &main_data, &mut sector).unwrap();
     cd_check(&sector, 150).unwrap();
     sector[99] ^= 1;
-    assert_eq!(cd_check(&sector, 150).unwrap_err().status, 12);
+    assert_eq!(cd_check(&sector, 150).unwrap_err().status, Status::CdParity);
     assert_eq!(cd_repair(&mut sector, 150), Ok(1));
-    assert_eq!(cd_make(450_000, &main_data, &mut sector).unwrap_err().status, 4);
+    assert_eq!(cd_make(450_000, &main_data, &mut sector).unwrap_err().status, Status::BadAddress);
+}
+
+#[test]
+fn empty_lists() {
+    assert_eq!(rs_parity(&mut [], 1).unwrap_err().status, Status::BadLength);
+    assert_eq!(rs_decode(&mut [], &[], 0).unwrap_err().status, Status::BadLength);
+    rows_parity(&mut []);
+    rows_decode(&mut [], &[], &mut []).unwrap();
+}
+
+#[test]
+fn errors_say_what_they_mean() {
+    let error = two_pass(&[0xFF; 42640], &mut [[0; 182]; 208]).unwrap_err();
+    assert_eq!(error.to_string(), "more than 16 rows of the block have no codeword near (number 208)");
+    assert_eq!(Status::Other(99).to_string(), "status 99, which this crate doesn't know");
 }
