@@ -28,6 +28,7 @@ fn main() {
         is_static = is_static || has_archive && !is_set("DVDECC_SHARED");
     }
     if let Some(include) = include.filter(|folder| Path::new(folder).join("dvdecc.h").exists()) {
+        // (crates that depend on this one see it as DEP_DVDECC_INCLUDE)
         println!("cargo:include={include}");
     }
     println!("cargo:rustc-link-lib={}dvdecc", if is_static { "static=" } else { "" });
