@@ -111,7 +111,7 @@ def build_wheel(wheel_directory: str, config_settings: Settings = None, metadata
 
 def build_sdist(sdist_directory: str, config_settings: Settings = None) -> str:
     base = f"{project('name')}-{version()}"
-    names = ["README.md", "build_dvdecc.py", "example.py", "pyproject.toml", *SOURCES]
+    names = ["README.md", "build_dvdecc.py", "example/row.py", "pyproject.toml", *SOURCES]
     files = {"PKG-INFO": metadata().encode(), **{name: read(name) for name in names}, **licences()}
     packed = io.BytesIO()
     with tarfile.open(fileobj=packed, mode="w") as archive:
