@@ -294,12 +294,13 @@ def _number(value: int, what: str) -> int:
 
 def _marks(lost: Lost, size: int) -> bytes:
     """A byte for each of so many places, by either form of lost places."""
+    data: Any = lost
     try:
-        memoryview(lost)  # type: ignore[arg-type]
+        memoryview(data)
     except TypeError:
         pass
     else:
-        return _given(lost, "what is lost", size)  # type: ignore[arg-type]
+        return _given(data, "what is lost", size)
     if isinstance(lost, str) or not isinstance(lost, Iterable):
         raise TypeError(f"what is lost is a byte for each place, or a list of places, and not {type(lost).__name__}")
     marks = bytearray(size)
