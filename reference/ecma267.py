@@ -364,12 +364,14 @@ class PhysicalFormat(NamedTuple):
 
 
 def read_physical_format(sector: bytes) -> Optional[PhysicalFormat]:
-    """Section 5, Physical format information: the fields of a sector, or None for another book,
-    another size, or a number of layers that isn't 1 or 2."""
+    """Section 5, Physical format information: the fields of a sector. None for another book type or
+    size, layers that aren't 1 or 2, or a Data Zone that doesn't begin at 030000 or ends before."""
     layers = (sector[2] >> 5 & 3) + 1
+    first, last, layer0 = (int.from_bytes(sector[k:k + 3], "big") for k in (5, 9, 13))
     if sector[0] >> 4 != 0 or sector[1] >> 4 != 0 or layers > 2:
         return None
-    first, last, layer0 = (int.from_bytes(sector[k:k + 3], "big") for k in (5, 9, 13))
+    if first != DATA_FIRST or last < first:
+        return None
     return PhysicalFormat(
         version=sector[0] & 0xF, rate=sector[1] & 0xF,
         layers=layers, path=OPPOSITE if sector[2] >> 4 & 1 else PARALLEL, kind=sector[2] & 0xF,
