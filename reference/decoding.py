@@ -1,16 +1,16 @@
 """Correction of damaged words and blocks of ECMA-267, by the rules of this project.
 
 Written from the clauses of the standard and this project's docs/MANUAL.md, by somebody who had not
-read the program. The standard says which words are codewords and not how to correct; what follows
-is Peterson's way, which solves two systems of linear equations for each word. A system that
-can't be solved, or a word that costs too much, has no answer: None.
+read the program. The standard says which words are codewords and not how to correct. Here a word
+is corrected by Peterson's way: two systems of linear equations, one for the places of the errors
+and one for their values. Whether the result is near the word is tested at the end.
 """
 
 from typing import Collection, List, NamedTuple, Optional, Sequence, Tuple
 
 from ecma267 import (
-    ALPHA, PI, PO, SAME_PLACE, TIMES, Layout, Zone, edc, frame_in, identification, ied,
-    is_codeword, polynomial_product, power, scrambled, scrambled_count, syndromes, value)
+    ALPHA, PI, PO, SAME_PLACE, TIMES, Layout, Zone, edc, frame_in, identity_of, ied, is_codeword,
+    power, syndromes, toggled, value, with_roots)
 
 
 def inverse(a: int) -> int:
@@ -36,33 +36,28 @@ def solution(equations: List[List[int]]) -> Optional[List[int]]:
     return [equation[n] for equation in equations]
 
 
-def locator(places: Sequence[int]) -> List[int]:
-    """The polynomial that is 0 exactly at the places: the product of (x - p), highest first."""
-    total = [1]
-    for place in places:
-        total = polynomial_product(total, [1, place])
-    return total
+# Byte j of a word of n bytes has the location X = alpha^(n-1-j). There a wrong byte with the error
+# e adds e X^k to syndrome k. So the syndromes are sums over the wrong bytes, from which locations
+# and then errors are found: S[k] = e1 X1^k + e2 X2^k + ..
 
 
-def without(sums: List[int], known: Sequence[int]) -> List[int]:
-    """Syndrome k is the sum of v p^k over the wrong places p with the errors v. With the locator
-    of known places as a recurrence they add nothing: sums of the same kind over the others."""
-    recurrence = locator(known)
-    return [
-        sum_of_products(recurrence, sums[k:k + len(recurrence)][::-1])
-        for k in range(len(sums) - len(known))]
-
-
-def sum_of_products(one: Sequence[int], other: Sequence[int]) -> int:
-    total = 0
-    for a, b in zip(one, other):
-        total ^= TIMES[a][b]
-    return total
+def without_erasures(sums: List[int], erased: Sequence[int]) -> List[int]:
+    """The sums S[k] without their parts of the erased locations. The polynomial with these as
+    roots, c0 x^s + .. + cs, makes c0 S[k+s] + .. + cs S[k], and an erased part of it is e X^k
+    times the polynomial's value at X: 0. The other parts have other errors and the same X."""
+    coefficients, sums_left = with_roots(erased), []
+    for k in range(len(sums) - len(erased)):
+        total = 0
+        for c, s in zip(coefficients, reversed(sums[k:k + len(coefficients)])):
+            total ^= TIMES[c][s]
+        sums_left.append(total)
+    return sums_left
 
 
 def error_locator(sums: List[int]) -> List[int]:
-    """The locator of the unknown wrong places: of the greatest number t of places that the sums
-    can determine, by sums[k+t] + c1 sums[k+t-1] + .. + ct sums[k] = 0 for each k below t."""
+    """The polynomial x^t + c1 x^(t-1) + .. + ct whose roots are the locations of the t errors.
+    By the same rule S[k+t] + c1 S[k+t-1] + .. + ct S[k] = 0 for each k below t. The number t is
+    the greatest for which these equations have one solution (Peterson)."""
     for t in range(len(sums) // 2, 0, -1):
         found = solution([sums[k:k + t][::-1] + [sums[k + t]] for k in range(t)])
         if found is not None:
@@ -75,23 +70,23 @@ def near_codeword(word: Sequence[int], erasures: Collection[int], parity: int) -
     most one, as two codewords differ in more than parity bytes."""
     if len(erasures) > parity:
         return None
-    received = syndromes(word, parity)
-    if not any(received):
+    sums = syndromes(word, parity)
+    if not any(sums):
         return bytes(word)
-    n = len(word)
-    place = [power(ALPHA, n - 1 - j) for j in range(n)]
-    errors_at = error_locator(without(received, [place[j] for j in erasures]))
-    wrong = sorted({j for j in range(n) if value(errors_at, place[j]) == 0} | set(erasures))
+    locations = [power(ALPHA, len(word) - 1 - j) for j in range(len(word))]
+    locator = error_locator(without_erasures(sums, [locations[j] for j in erasures]))
+    errors = {j for j, x in enumerate(locations) if value(locator, x) == 0}
+    wrong = sorted(errors | set(erasures))
     if len(wrong) > parity:
         return None
     values = solution(
-        [[power(place[j], k) for j in wrong] + [received[k]] for k in range(len(wrong))])
-    corrected = bytearray(word)
+        [[power(locations[j], k) for j in wrong] + [sums[k]] for k in range(len(wrong))])
+    answer = bytearray(word)
     for j, error in zip(wrong, values):
-        corrected[j] ^= error
-    errors = sum(corrected[j] != word[j] for j in wrong if j not in erasures)
-    cost = 2 * errors + len(erasures)
-    return bytes(corrected) if cost <= parity and is_codeword(corrected, parity) else None
+        answer[j] ^= error
+    changed = sum(answer[j] != word[j] for j in wrong if j not in erasures)
+    cost = 2 * changed + len(erasures)
+    return bytes(answer) if cost <= parity and is_codeword(answer, parity) else None
 
 
 class Received(NamedTuple):
@@ -129,25 +124,15 @@ def two_passes(received: Received) -> Passes:
     return Passes(answers, failed, None, block)
 
 
-def frame_identity(layout: Layout, block: Zone, f: int) -> int:
-    """The ID that frame f of a block has to have."""
-    return identification(block.area, block.layer, layout.two_layers, block.first + f)
-
-
-def plain_frame(frame: bytes, layout: Layout, block: Zone, f: int) -> bytes:
-    """A frame without its scrambling."""
-    return scrambled(frame, frame_identity(layout, block, f), scrambled_count(block, f))
-
-
 def frame_cause(frame: bytes, layout: Layout, block: Zone, f: int) -> Optional[str]:
     """Why the frame isn't right as frame f of the block: its IED, its ID or its EDC. None if it
     is right."""
     found = int.from_bytes(frame[:4], "big")
     if frame[4:6] != ied(frame[:4]):
         return f"ied {f}"
-    if (found ^ frame_identity(layout, block, f)) & SAME_PLACE:
+    if (found ^ identity_of(layout, block, f)) & SAME_PLACE:
         return f"address {f} found {found:08X}"
-    plain = plain_frame(frame, layout, block, f)
+    plain = toggled(frame, layout, block, f)
     return f"edc {f}" if plain[2060:] != edc(plain[:2060]) else None
 
 
@@ -164,7 +149,7 @@ def block_cause(passes: Passes, layout: Layout, block: Zone) -> Optional[str]:
 
 def block_sectors(rows: List[bytes], layout: Layout, block: Zone) -> List[bytes]:
     """The Main Data of the sixteen frames."""
-    return [plain_frame(frame_in(rows, f), layout, block, f)[12:2060] for f in range(16)]
+    return [toggled(frame_in(rows, f), layout, block, f)[12:2060] for f in range(16)]
 
 
 def salvage(passes: Passes, layout: Layout, block: Zone) -> Tuple[List[bytes], int]:
@@ -177,7 +162,8 @@ def salvage(passes: Passes, layout: Layout, block: Zone) -> Tuple[List[bytes], i
         if None not in rows[12 * f:12 * f + 12]:
             frame = frame_in(rows, f)
             if frame_cause(frame, layout, block, f) is None:
-                sector, saved = plain_frame(frame, layout, block, f)[12:2060], saved + 1
+                sector = toggled(frame, layout, block, f)[12:2060]
+                saved += 1
         sectors.append(sector)
     return sectors, saved
 

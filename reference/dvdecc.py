@@ -18,8 +18,11 @@ from decoding import (
 from ecma267 import (
     CONTROL, DATA, IMAGE, LEAD_IN, OPPOSITE, PARALLEL, PI, SAME_PLACE, SINGLE, Layout, Zone)
 from forms import (
-    BLOCK, FRAME, MARKED_ROW, BadHeader, BadMarks, Capture, from_header, from_listed, from_marked,
-    from_plain, layout_fault, received, to_header, to_listed, to_marked)
+    BLOCK, FRAME, STORED_ROW, BrokenRule, Capture, from_header, from_listed, from_stored,
+    layout_fault, received, to_header, to_listed, to_marked)
+
+
+Settings = Dict[str, Any]  # the value of each option, and of `command`
 
 
 class End(Exception):
@@ -62,6 +65,9 @@ class Streams:
         except OSError:
             raise End(4, "write fault") from None
 
+    def write_line(self, line: str) -> None:
+        self.write(line.encode() + b"\n")
+
     def report(self, line: str) -> None:
         try:
             self.stderr.write(line.encode() + b"\n")
@@ -79,46 +85,17 @@ class Streams:
 
 # The arguments.
 
-LAYOUT = ["--sectors1", "--shape", "--zones", "--initial", "--tail"]
-NEEDED = {
-    "frames": ["--first", "--sectors"],
-    "master": ["--sectors"],
-    "recover": ["--sectors"],
-    "deep": ["--sectors"],
-    "survey": ["--sectors"],
-    "info": [],
-    "merge": ["--sectors", "--captures"],
-    "assemble": ["--sectors", "--frames"],
-    "convert": ["--sectors"],
-    "cdmake": ["--address", "--sectors"],
-    "cdread": ["--address", "--sectors"],
-    "exercise": ["--seed", "--blocks"],
-}
-ALLOWED = {
-    "master": LAYOUT + ["--cpr", "--workers"],
-    "recover": LAYOUT + ["--form", "--workers"],
-    "deep": LAYOUT + ["--form"],
-    "survey": LAYOUT + ["--form", "--workers"],
-    "info": ["--initial", "--form"],
-    "merge": LAYOUT + ["--form"],
-    "assemble": ["--sectors1", "--shape", "--form"],
-    "convert": LAYOUT + ["--form"],
-    "exercise": ["--workers"],
-}
-READS_LISTED = ["recover", "deep", "survey", "info"]
-HAS_LAYOUT = ["master", "recover", "deep", "survey", "merge", "assemble", "convert"]
-DEFAULTS = {
-    "--sectors1": 0, "--shape": SINGLE, "--zones": "data", "--initial": 0, "--tail": 16,
-    "--cpr": bytes(6), "--form": "plain", "--workers": 1,
-}
-USAGE = (1, "usage")
+
+def require(condition: bool) -> None:
+    """Other arguments are none of the program."""
+    if not condition:
+        raise End(1, "usage")
 
 
 def number(least: int = 0, most: int = 4_294_967_295) -> Callable[[str], int]:
     """Reads one to ten decimal digits, in a range."""
     def read(text: str) -> int:
-        if not re.fullmatch("[0-9]{1,10}", text) or not least <= int(text) <= most:
-            raise End(*USAGE)
+        require(re.fullmatch("[0-9]{1,10}", text) is not None and least <= int(text) <= most)
         return int(text)
     return read
 
@@ -126,8 +103,7 @@ def number(least: int = 0, most: int = 4_294_967_295) -> Callable[[str], int]:
 def hexadecimal(digits: int) -> Callable[[str], bytes]:
     """Reads a number of hexadecimal digits, of either case."""
     def read(text: str) -> bytes:
-        if not re.fullmatch("[0-9A-Fa-f]{%d}" % digits, text):
-            raise End(*USAGE)
+        require(re.fullmatch("[0-9A-Fa-f]{%d}" % digits, text) is not None)
         return bytes.fromhex(text)
     return read
 
@@ -135,8 +111,7 @@ def hexadecimal(digits: int) -> Callable[[str], bytes]:
 def one_of(*words: str) -> Callable[[str], str]:
     """Reads one of some words."""
     def read(text: str) -> str:
-        if text not in words:
-            raise End(*USAGE)
+        require(text in words)
         return text
     return read
 
@@ -149,66 +124,64 @@ VALUES: Dict[str, Callable[[str], Any]] = {
     "--captures": number(2, 16), "--frames": number(1), "--address": number(),
     "--seed": number(), "--blocks": number(1, 4096),
 }
+DEFAULTS: Settings = {
+    "--sectors1": 0, "--shape": SINGLE, "--zones": "data", "--initial": 0, "--tail": 16,
+    "--cpr": bytes(6), "--form": "plain", "--workers": 1,
+}
+LAYOUT = ["--sectors1", "--shape", "--zones", "--initial", "--tail"]
 
 
-def require(condition: bool) -> None:
-    """What isn't so makes the arguments invalid."""
-    if not condition:
-        raise End(*USAGE)
-
-
-def read_arguments(arguments: List[str]) -> Dict[str, Any]:
-    """The value of each option, the command being that of `command`."""
-    require(len(arguments) > 0 and arguments[0] in NEEDED)
+def read_arguments(arguments: List[str]) -> Settings:
+    """The command and its options, in any order, each at most once."""
+    require(len(arguments) > 0 and arguments[0] in COMMANDS)
     command, rest = arguments[0], list(arguments[1:])
-    allowed = NEEDED[command] + ALLOWED.get(command, [])
-    given: Dict[str, Any] = {}
+    _, needed, optional = COMMANDS[command]
+    given: Settings = {}
     if rest[-1:] == ["--"]:
         rest.pop()
     while rest:
         option, equals, text = rest.pop(0).partition("=")
-        require(option in allowed and option not in given)
+        require(option in needed + optional and option not in given)
         require(equals == "=" or len(rest) > 0)
         given[option] = VALUES[option](text if equals else rest.pop(0))
-    check_options(command, given)
-    return {**DEFAULTS, **given, "command": command}
-
-
-def check_options(command: str, given: Dict[str, Any]) -> None:
-    """The rules about several options of a command."""
     if given.get("--form") == "listed":
-        require(command in READS_LISTED)
+        require(command in ("recover", "deep", "survey", "info"))
         require(not any(option in given for option in ["--sectors"] + LAYOUT))
     else:
-        require(all(option in given for option in NEEDED[command]))
+        require(all(option in given for option in needed))
+    settings = {**DEFAULTS, **given, "command": command}
+    check_sums(settings)
+    return settings
+
+
+def check_sums(settings: Settings) -> None:
+    """The rules of some commands about several numbers."""
+    command, sectors = settings["command"], settings.get("--sectors", 0)
     if command == "frames":
-        first = int.from_bytes(given["--first"], "big")
-        require(1 <= given["--sectors"] and first + given["--sectors"] <= 0x1000000)
+        first = int.from_bytes(settings["--first"], "big")
+        require(sectors >= 1 and first + sectors <= 0x1000000)
     if command in ("cdmake", "cdread"):
-        require(1 <= given["--sectors"] and given["--address"] + given["--sectors"] <= 450_000)
+        require(sectors >= 1 and settings["--address"] + sectors <= 450_000)
     if command == "assemble":
-        require(given["--sectors"] + given.get("--sectors1", 0) <= 16_384)
+        require(sectors + settings["--sectors1"] <= 16_384)
 
 
-def check_setting(settings: Dict[str, Any]) -> None:
-    """The rules of the layout, where the options state it."""
-    if settings["--form"] == "listed":
+def stated_layout(settings: Settings) -> Layout:
+    """The layout that the options state. Where the command has no `--sectors`, it counts for
+    nothing how many there are."""
+    return Layout(
+        settings["--shape"], settings.get("--sectors", 1), settings["--sectors1"],
+        settings["--initial"], settings["--tail"])
+
+
+def check_layout(settings: Settings) -> None:
+    """The rules of the layout, for a command with options of it; a header is tested later."""
+    _, _, optional = COMMANDS[settings["command"]]
+    if settings["--form"] == "listed" or not set(LAYOUT) & set(optional):
         return
-    if settings["command"] in HAS_LAYOUT:
-        fault = layout_fault(stated_layout(settings))
-    elif settings["command"] == "info":
-        fault = layout_fault(Layout(SINGLE, 16, initial=settings["--initial"]))
-    else:
-        return
+    fault = layout_fault(stated_layout(settings))
     if fault is not None:
         raise End(2, f"setting: {fault.text}")
-
-
-def stated_layout(settings: Dict[str, Any]) -> Layout:
-    """The layout that the options state."""
-    return Layout(
-        settings["--shape"], settings["--sectors"], settings["--sectors1"],
-        settings["--initial"], settings["--tail"])
 
 
 # Streams of blocks.
@@ -231,23 +204,21 @@ def name(k: int, block: Zone) -> str:
     return f"block {k} sector {block.first:06X} layer {block.layer}"
 
 
-def open_capture(settings: Dict[str, Any], streams: Streams) -> Tuple[Layout, str]:
+def open_capture(settings: Settings, streams: Streams) -> Tuple[Layout, str]:
     """The layout and the zones of a capture: by its header in the listed form, else by options."""
     if settings["--form"] != "listed":
         return stated_layout(settings), settings["--zones"]
     try:
         return from_header(streams.read_unit(32, "header"))
-    except BadHeader as bad:
-        raise End(11, f"bad header: byte {bad.at}") from None
+    except BrokenRule as broken:
+        raise End(11, f"bad header: byte {broken.at}") from None
 
 
-def read_capture(settings: Dict[str, Any], streams: Streams, k: int) -> Capture:
+def read_capture(settings: Settings, streams: Streams, k: int) -> Capture:
     """Captured block k."""
-    if settings["--form"] == "plain":
-        return from_plain(streams.read_unit(BLOCK, f"block {k}"))
-    if settings["--form"] == "marked":
-        return from_marked(streams.read_unit(208 * MARKED_ROW, f"block {k}"))
-    held = 0
+    form, held = settings["--form"], 0
+    if form != "listed":
+        return from_stored(form, streams.read_unit(208 * STORED_ROW[form], f"block {k}"))
 
     def next_bytes(size: int) -> bytes:
         nonlocal held
@@ -259,14 +230,14 @@ def read_capture(settings: Dict[str, Any], streams: Streams, k: int) -> Capture:
 
     try:
         return from_listed(next_bytes)
-    except BadMarks as bad:
-        raise End(12, f"bad marks: block {k}, byte {bad.at}") from None
+    except BrokenRule as broken:
+        raise End(12, f"bad marks: block {k}, byte {broken.at}") from None
 
 
 # The commands.
 
 
-def frames(settings: Dict[str, Any], streams: Streams) -> None:
+def frames(settings: Settings, streams: Streams) -> None:
     first = int.from_bytes(settings["--first"], "big")
     for k in range(settings["--sectors"]):
         sector = streams.read_unit(2048, f"sector {k}")
@@ -276,7 +247,7 @@ def frames(settings: Dict[str, Any], streams: Streams) -> None:
     streams.finish()
 
 
-def master(settings: Dict[str, Any], streams: Streams) -> None:
+def master(settings: Settings, streams: Streams) -> None:
     layout = stated_layout(settings)
     for k, block in plan(layout, settings["--zones"]):
         if block.content == IMAGE:
@@ -293,7 +264,7 @@ def in_sectors(data: bytes) -> List[bytes]:
     return [data[at:at + 2048] for at in range(0, len(data), 2048)]
 
 
-def recover(settings: Dict[str, Any], streams: Streams) -> None:
+def recover(settings: Settings, streams: Streams) -> None:
     layout, zones = open_capture(settings, streams)
     damaged = 0
     for k, block in plan(layout, zones):
@@ -312,7 +283,8 @@ def recover(settings: Dict[str, Any], streams: Streams) -> None:
             sectors = block_sectors(rows, layout, block)
         else:
             sectors, saved = salvage(passes, layout, block)
-            line, damaged = f"{cause} saved {saved}", damaged + 1
+            line = f"{cause} saved {saved}"
+            damaged += 1
         if line is not None:
             streams.report(f"{name(k, block)}: {line}")
         for sector in sectors[:image_sectors(layout, block)]:
@@ -320,31 +292,29 @@ def recover(settings: Dict[str, Any], streams: Streams) -> None:
     streams.finish(damaged)
 
 
-def survey(settings: Dict[str, Any], streams: Streams) -> None:
+def survey(settings: Settings, streams: Streams) -> None:
     layout, zones = open_capture(settings, streams)
-    pi, all_failed, damaged, sums = [], 0, 0, []
+    pi, sums, all_failed, damaged = [], [], 0, 0
     for k, block in plan(layout, zones):
         captured = received(read_capture(settings, streams, k))
         passes = two_passes(captured)
         cause = block_cause(passes, layout, block)
         failed = len(passes.failed)
         pi.append(pi_errors(captured))
-        sums.append(sum(pi[-8:]))
-        all_failed, damaged = all_failed + failed, damaged + (cause is not None)
-        streams.write(text_line(
-            f"{name(k, block)} pi {pi[-1]} failed {failed} sum8 {sums[-1]}: {cause or 'whole'}"))
-    peak, over = max(sums), sum(sum8 > 280 for sum8 in sums)
-    streams.write(text_line(
+        sums.append(sum(pi[-8:]))  # of the block and the seven before it
+        all_failed += failed
+        if cause is not None:
+            damaged += 1
+        streams.write_line(
+            f"{name(k, block)} pi {pi[-1]} failed {failed} sum8 {sums[-1]}: {cause or 'whole'}")
+    peak, over = max(sums), sum(sum8 > 280 for sum8 in sums)  # ECMA-267 allows 280
+    streams.write_line(
         f"blocks {len(pi)} pi {sum(pi)} failed {all_failed} damaged {damaged} "
-        f"peak {peak} at {sums.index(peak)} over {over}"))
+        f"peak {peak} at {sums.index(peak)} over {over}")
     streams.finish(damaged)
 
 
-def text_line(text: str) -> bytes:
-    return text.encode() + b"\n"
-
-
-def info(settings: Dict[str, Any], streams: Streams) -> None:
+def info(settings: Settings, streams: Streams) -> None:
     initial = settings["--initial"]
     if settings["--form"] == "listed":
         initial = open_capture(settings, streams)[0].initial
@@ -369,7 +339,7 @@ def write_format(found: ecma267.PhysicalFormat, streams: Streams) -> None:
     for field, content in found._asdict().items():
         if field in ("first", "last", "layer0"):
             content = f"{content:06X}"
-        streams.write(text_line(f"{field} {content}"))
+        streams.write_line(f"{field} {content}")
 
 
 # Captures joined place by place. A place is UNSEEN, CONFLICT or the value of a byte.
@@ -397,29 +367,25 @@ def marked_places(places: List[int]) -> bytes:
         bytes(max(place, 0) for place in places), bytes(place < 0 for place in places)))
 
 
-def merge(settings: Dict[str, Any], streams: Streams) -> None:
-    layout = stated_layout(settings)
-    is_plain = settings["--form"] == "plain"
-    size = BLOCK if is_plain else 208 * MARKED_ROW
-    for k, _ in plan(layout, settings["--zones"]):
+def merge(settings: Settings, streams: Streams) -> None:
+    form = settings["--form"]
+    size = 208 * STORED_ROW[form]
+    for k, _ in plan(stated_layout(settings), settings["--zones"]):
         units = streams.read_unit(size * settings["--captures"], f"block {k}")
         places = [UNSEEN] * BLOCK
         for at in range(0, len(units), size):
-            unit = units[at:at + size]
-            places = joined(places, seen(from_plain(unit) if is_plain else from_marked(unit)))
+            places = joined(places, seen(from_stored(form, units[at:at + size])))
         streams.write(marked_places(places))
     streams.finish()
 
 
-def assemble(settings: Dict[str, Any], streams: Streams) -> None:
-    layout = stated_layout(settings)
-    blocks = [block for _, block in plan(layout, "data")]
+def assemble(settings: Settings, streams: Streams) -> None:
+    blocks = [block for _, block in plan(stated_layout(settings), "data")]
     shelf: Dict[int, List[int]] = {}  # the joined places of each recording frame that came
-    placed, is_plain = 0, settings["--form"] == "plain"
+    placed, form = 0, settings["--form"]
     for k in range(settings["--frames"]):
-        unit = streams.read_unit(FRAME if is_plain else 13 * MARKED_ROW, f"frame {k}")
-        capture = from_plain(unit) if is_plain else from_marked(unit)
-        home = frame_home(layout, blocks, capture)
+        capture = from_stored(form, streams.read_unit(13 * STORED_ROW[form], f"frame {k}"))
+        home = frame_home(blocks, capture)
         if home is not None:
             shelf[home] = joined(shelf.get(home, [UNSEEN] * FRAME), seen(capture))
             placed += 1
@@ -429,21 +395,21 @@ def assemble(settings: Dict[str, Any], streams: Streams) -> None:
     streams.finish()
 
 
-def frame_home(layout: Layout, blocks: List[Zone], capture: Capture) -> Optional[int]:
-    """The number of the recording frame in the Data Zones that the corrected first row names."""
+def frame_home(blocks: List[Zone], capture: Capture) -> Optional[int]:
+    """Which recording frame of the Data Zones this is by its first row, once that is corrected."""
     erasures = [j for j in range(182) if capture.marks[j]]
     row = near_codeword(capture.data[:182], erasures, PI)
     if row is None or row[4:6] != ecma267.ied(row[:4]):
         return None
     found = int.from_bytes(row[:4], "big") & SAME_PLACE
     for k, block in enumerate(blocks):
-        f = (found & 0xFFFFFF) - block.first
-        if 0 <= f < 16 and found == ecma267.identification(DATA, block.layer, False, block.first + f):
+        f = found - ecma267.identification(DATA, block.layer, False, block.first)
+        if 0 <= f < 16:
             return 16 * k + f
     return None
 
 
-def convert(settings: Dict[str, Any], streams: Streams) -> None:
+def convert(settings: Settings, streams: Streams) -> None:
     layout = stated_layout(settings)
     streams.write(to_header(layout, settings["--zones"]))
     for k, _ in plan(layout, settings["--zones"]):
@@ -451,14 +417,14 @@ def convert(settings: Dict[str, Any], streams: Streams) -> None:
     streams.finish()
 
 
-def cdmake(settings: Dict[str, Any], streams: Streams) -> None:
+def cdmake(settings: Settings, streams: Streams) -> None:
     for k in range(settings["--sectors"]):
         user_data = streams.read_unit(2048, f"sector {k}")
         streams.write(ecma130.make_sector(settings["--address"] + k, user_data))
     streams.finish()
 
 
-def cdread(settings: Dict[str, Any], streams: Streams) -> None:
+def cdread(settings: Settings, streams: Streams) -> None:
     damaged = 0
     for k in range(settings["--sectors"]):
         sector = ecma130.repaired(streams.read_unit(2352, f"sector {k}"))
@@ -512,7 +478,7 @@ def damaged_block(block: List[bytes], draw: Draw) -> Received:
     return Received([bytes(row) for row in rows], marks)
 
 
-def exercise(settings: Dict[str, Any], streams: Streams) -> None:
+def exercise(settings: Settings, streams: Streams) -> None:
     draw = Draw(settings["--seed"])
     layout = Layout(SINGLE, 16 * settings["--blocks"])
     whole = fixed = failed = 0
@@ -526,15 +492,24 @@ def exercise(settings: Dict[str, Any], streams: Streams) -> None:
             whole += right and block_sectors(passes.block, layout, block) == sectors
             fixed += sum(a != b for a, b in zip(b"".join(passes.block), b"".join(damaged.rows)))
             failed += len(passes.failed)
-    streams.write(text_line(
+    streams.write_line(
         f"exercise seed {settings['--seed']} blocks {settings['--blocks']} "
-        f"whole {whole} fixed {fixed} failed {failed}"))
+        f"whole {whole} fixed {fixed} failed {failed}")
 
 
-COMMANDS = {
-    "frames": frames, "master": master, "recover": recover, "deep": recover, "survey": survey,
-    "info": info, "merge": merge, "assemble": assemble, "convert": convert, "cdmake": cdmake,
-    "cdread": cdread, "exercise": exercise,
+COMMANDS: Dict[str, Tuple[Callable[[Settings, Streams], None], List[str], List[str]]] = {
+    "frames": (frames, ["--first", "--sectors"], []),
+    "master": (master, ["--sectors"], LAYOUT + ["--cpr", "--workers"]),
+    "recover": (recover, ["--sectors"], LAYOUT + ["--form", "--workers"]),
+    "deep": (recover, ["--sectors"], LAYOUT + ["--form"]),
+    "survey": (survey, ["--sectors"], LAYOUT + ["--form", "--workers"]),
+    "info": (info, [], ["--initial", "--form"]),
+    "merge": (merge, ["--sectors", "--captures"], LAYOUT + ["--form"]),
+    "assemble": (assemble, ["--sectors", "--frames"], ["--sectors1", "--shape", "--form"]),
+    "convert": (convert, ["--sectors"], LAYOUT + ["--form"]),
+    "cdmake": (cdmake, ["--address", "--sectors"], []),
+    "cdread": (cdread, ["--address", "--sectors"], []),
+    "exercise": (exercise, ["--seed", "--blocks"], ["--workers"]),
 }
 
 
@@ -543,8 +518,9 @@ def run(arguments: List[str], stdin: BinaryIO, stdout: BinaryIO, stderr: BinaryI
     streams = Streams(stdin, stdout, stderr)
     try:
         settings = read_arguments(arguments)
-        check_setting(settings)
-        COMMANDS[settings["command"]](settings, streams)
+        check_layout(settings)
+        command, _, _ = COMMANDS[settings["command"]]
+        command(settings, streams)
         end = End(0, "done")
     except End as reached:
         end = reached

@@ -46,8 +46,8 @@ def edc(covered: bytes) -> bytes:
     return reflected(rest.to_bytes(4, "big"))
 
 
-# Annex A: bytes 12 to 2351 are 1,170 pairs. The first bytes of all pairs are coded by themselves,
-# and so are the second bytes. The last two pairs of a word are its parity.
+# Annex A: bytes 12 to 2351 are 1,170 pairs. The first bytes of the pairs and the second bytes are
+# coded apart. The last two pairs of a word are its parity.
 
 
 def p_word(n: int) -> List[int]:
@@ -61,7 +61,7 @@ def q_word(n: int) -> List[int]:
 
 
 def places(pairs: List[int], second: int) -> List[int]:
-    """Annex A: where the bytes of a word are in the sector: the first or the second of each pair."""
+    """Annex A: where a sector has the bytes of a word, the first or the second of each pair."""
     return [12 + 2 * pair + second for pair in pairs]
 
 

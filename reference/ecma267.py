@@ -54,13 +54,18 @@ def polynomial_product(p: Sequence[int], q: Sequence[int]) -> List[int]:
     return total
 
 
+def with_roots(roots: Sequence[int]) -> List[int]:
+    """Clause 18: the product of (x - root) over some roots."""
+    total = [1]
+    for root in roots:
+        total = polynomial_product(total, [1, root])
+    return total
+
+
 @lru_cache(maxsize=None)
 def generator(parity: int) -> List[int]:
     """Clauses 16.2 and 18: the product of (x - alpha^i) for i from 0 to parity - 1."""
-    total = [1]
-    for i in range(parity):
-        total = polynomial_product(total, [1, power(ALPHA, i)])
-    return total
+    return with_roots([power(ALPHA, i) for i in range(parity)])
 
 
 def parity_bytes(data: Sequence[int], parity: int) -> bytes:
@@ -164,12 +169,8 @@ def scrambled(frame: bytes, identity: int, count: int = 2048) -> bytes:
     """Clause 17: the frame with scrambling bytes added to its first count bytes of Main Data. Bits
     7 to 4 of the ID select the preset. Applied twice it gives the frame again."""
     key = scrambling_bytes(PRESETS[identity >> 4 & 0xF])[:count]
-    return frame[:12] + added(frame[12:12 + count], key) + frame[12 + count:]
-
-
-def added(one: Sequence[int], other: Sequence[int]) -> bytes:
-    """Clause 17: the sum of two lists, byte by byte."""
-    return bytes(a ^ b for a, b in zip(one, other))
+    changed = bytes(a ^ b for a, b in zip(frame[12:], key))
+    return frame[:12] + changed + frame[12 + count:]
 
 
 # Clause 18: ECC Blocks, 208 rows of 182 bytes.
@@ -178,8 +179,8 @@ PI, PO = 10, 16  # the parity bytes of a row, and of a column
 
 
 def ecc_block(frames: Sequence[bytes]) -> List[bytes]:
-    """Clause 18: sixteen scrambled frames, twelve rows of 172 bytes each; sixteen rows of outer
-    parity (PO), a part of each column; then at the end of each of the 208 rows inner parity (PI)."""
+    """Clause 18: sixteen scrambled frames, twelve rows of 172 bytes each; below them sixteen rows
+    of PO, which make codewords of the columns; then at the end of all 208 rows PI."""
     rows = [frame[172 * q:172 * (q + 1)] for frame in frames for q in range(12)]
     outer = [parity_bytes(column, PO) for column in zip(*rows)]
     rows += [bytes(row) for row in zip(*outer)]
@@ -241,7 +242,7 @@ class Zone(NamedTuple):
 
 def padded(sectors: int) -> int:
     """Own: the data of a layer are filled with zero sectors to whole blocks."""
-    return -(-sectors // 16) * 16
+    return (sectors + 15) // 16 * 16
 
 
 def lead_in(layout: Layout, layer: int) -> List[Zone]:
@@ -338,8 +339,8 @@ def physical_format(layout: Layout, layer: int) -> bytes:
     head = [
         0 << 4 | 1,                                        # book type read-only; version 1
         0 << 4 | 2,                                        # 120 mm; maximum rate 10.08 Mbit/s
-        layout.two_layers << 5 | opposite << 4 | 1,        # layers; track path; embossed
-        (1 if layout.two_layers else 0) << 4 | 0,          # channel bit length; track pitch
+        layout.two_layers << 5 | opposite << 4 | 1,        # layers; track path; embossed data
+        layout.two_layers << 4 | 0,                        # channel bit length; track pitch
         0, *DATA_FIRST.to_bytes(3, "big"),
         0, *last_of_disk.to_bytes(3, "big"),
         0, *last_of_layer_0.to_bytes(3, "big"),
@@ -382,13 +383,22 @@ def read_physical_format(sector: bytes) -> Optional[PhysicalFormat]:
 # A whole block of a disk.
 
 
-def disk_block(layout: Layout, block: Zone, cpr_mai: bytes, sectors: Sequence[bytes]) -> List[bytes]:
-    """Clauses 16 to 18: the ECC block of a block's sixteen Main Data. Own: CPR_MAI is that which
-    is given in the Data Zone, and zeros elsewhere."""
+def identity_of(layout: Layout, block: Zone, f: int) -> int:
+    """Clause 16.1: the ID of frame f of a block."""
+    return identification(block.area, block.layer, layout.two_layers, block.first + f)
+
+
+def toggled(frame: bytes, layout: Layout, block: Zone, f: int) -> bytes:
+    """Clause 17: frame f of a block with its scrambling put on or taken off."""
+    return scrambled(frame, identity_of(layout, block, f), scrambled_count(block, f))
+
+
+def disk_block(
+        layout: Layout, block: Zone, cpr_mai: bytes, sectors: Sequence[bytes]) -> List[bytes]:
+    """Clauses 16 to 18: the ECC block of sixteen sectors of Main Data. Own: outside of the Data
+    Zone CPR_MAI is zeros."""
     cpr_mai = cpr_mai if block.area == DATA else NO_CPR_MAI
-    frames = []
-    for f, sector in enumerate(sectors):
-        identity = identification(block.area, block.layer, layout.two_layers, block.first + f)
-        frame = data_frame(identity, cpr_mai, sector)
-        frames.append(scrambled(frame, identity, scrambled_count(block, f)))
-    return ecc_block(frames)
+    frames = [
+        data_frame(identity_of(layout, block, f), cpr_mai, sector)
+        for f, sector in enumerate(sectors)]
+    return ecc_block([toggled(frame, layout, block, f) for f, frame in enumerate(frames)])

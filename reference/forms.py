@@ -13,7 +13,7 @@ from ecma267 import DATA_FIRST, OPPOSITE, PARALLEL, RECORDING_ORDER, SINGLE, Lay
 ROW = 182
 BLOCK = 208 * ROW
 FRAME = 13 * ROW
-MARKED_ROW = ROW + 23  # the marked form has 23 bytes of mark bits after each row
+STORED_ROW = {"plain": ROW, "marked": ROW + 23}  # 23 bytes of mark bits after each row
 MOST_RUNS = 18_928
 SIGNATURE = b"DVDECC\x00\x02"  # a listed capture begins with these bytes
 SHAPES = [SINGLE, PARALLEL, OPPOSITE]
@@ -35,16 +35,14 @@ def received(capture: Capture) -> Received:
     return Received(rows, marks)
 
 
-def from_plain(data: bytes) -> Capture:
-    """The plain form: the rows alone."""
-    return Capture(data, bytes(len(data)))
-
-
-def from_marked(stored: bytes) -> Capture:
-    """The marked form: byte j of a row has bit 7 - (j mod 8) of mark byte j/8."""
+def from_stored(form: str, stored: bytes) -> Capture:
+    """The plain form is the rows alone. In the marked form byte j of a row has bit 7 - (j mod 8)
+    of mark byte j/8."""
+    if form == "plain":
+        return Capture(stored, bytes(len(stored)))
     data, marks = b"", b""
-    for at in range(0, len(stored), MARKED_ROW):
-        bits = stored[at + ROW:at + MARKED_ROW]
+    for at in range(0, len(stored), STORED_ROW["marked"]):
+        bits = stored[at + ROW:at + STORED_ROW["marked"]]
         data += stored[at:at + ROW]
         marks += bytes(bits[j // 8] >> 7 - j % 8 & 1 for j in range(ROW))
     return Capture(data, marks)
@@ -61,20 +59,19 @@ def to_marked(capture: Capture) -> bytes:
 
 def to_listed(capture: Capture) -> bytes:
     """The unit of a block in the listed form: its rows, the number of runs, and the runs."""
-    runs = runs_of(capture.marks)
-    numbers = [len(runs)] + [number for run in runs for number in run]
+    numbers: List[int] = []
+    at = capture.marks.find(1)
+    while at != -1:
+        end = capture.marks.find(0, at)
+        end = BLOCK if end == -1 else end
+        numbers += [at, end - at]
+        at = capture.marks.find(1, end)
+    numbers = [len(numbers) // 2] + numbers
     return capture.data + b"".join(number.to_bytes(2, "big") for number in numbers)
 
 
-def runs_of(marks: bytes) -> List[Tuple[int, int]]:
-    """The start and the length of each run of erasures."""
-    starts = [p for p in range(BLOCK) if marks[p] and not (p and marks[p - 1])]
-    ends = [p + 1 for p in range(BLOCK) if marks[p] and not marks[p + 1:p + 2].strip(b"\0")]
-    return [(start, end - start) for start, end in zip(starts, ends)]
-
-
-class BadMarks(Exception):
-    """A unit of the listed form breaks a rule, first in the field at this byte of the unit."""
+class BrokenRule(Exception):
+    """A header or a unit of the listed form breaks a rule, first in the field at this byte."""
 
     def __init__(self, at: int) -> None:
         self.at = at
@@ -88,7 +85,7 @@ def from_listed(next_bytes: Callable[[int], bytes]) -> Capture:
         nonlocal at
         number = int.from_bytes(next_bytes(2), "big")
         if not least <= number <= most:
-            raise BadMarks(at)
+            raise BrokenRule(at)
         at += 2
         return number
 
@@ -108,24 +105,20 @@ def to_header(layout: Layout, zones: str) -> bytes:
             + b"".join(number.to_bytes(4, "big") for number in numbers) + bytes(4))
 
 
-class BadHeader(Exception):
-    """A header breaks a rule, first at this byte."""
-
-    def __init__(self, at: int) -> None:
-        self.at = at
-
-
 def from_header(header: bytes) -> Tuple[Layout, str]:
     """The layout and the zones that a header states."""
-    possible = [[byte] for byte in SIGNATURE] + [range(3), range(2), [0], [0]]
-    for at, bytes_here in list(enumerate(possible)) + [(at, [0]) for at in range(28, 32)]:
+    any_byte = range(256)
+    possible = (
+        [[byte] for byte in SIGNATURE] + [range(3), range(2), [0], [0]]
+        + [any_byte] * 16 + [[0]] * 4)
+    for at, bytes_here in enumerate(possible):
         if header[at] not in bytes_here:
-            raise BadHeader(at)
+            raise BrokenRule(at)
     numbers = [int.from_bytes(header[at:at + 4], "big") for at in (12, 16, 20, 24)]
     layout = Layout(SHAPES[header[8]], *numbers)
     fault = layout_fault(layout)
     if fault is not None:
-        raise BadHeader(fault.at)
+        raise BrokenRule(fault.at)
     return layout, ZONES[header[9]]
 
 
