@@ -1,7 +1,9 @@
 """The commands of dvdecc with the same arguments, output, report and exit status, slow and plain.
 
-Written from this project's docs/MANUAL.md and docs/FORMATS.md, by somebody who had not read the
-program. Run it as: python3 reference/dvdecc.py COMMAND [OPTION VALUE].. < input > output 2> report
+Written from docs/MANUAL.md, docs/FORMATS.md and the specification of the commands, by somebody who
+had not read the program (README.md). Run it so:
+
+    python3 reference/dvdecc.py COMMAND [OPTION VALUE].. < input > output 2> report
 """
 
 import os

@@ -1,5 +1,6 @@
-"""The forms of a capture and the rules of a layout, from this project's docs/FORMATS.md and
-docs/MANUAL.md, by somebody who had not read the program.
+"""The forms of a capture and the rules of a layout.
+
+Written from docs/FORMATS.md and docs/MANUAL.md, by somebody who had not read the program.
 
 A capture is here its bytes in the order of recording, and for each of them a mark: 1 says that
 the byte is an erasure. Both are whole blocks, or one recording frame of 13 rows.
