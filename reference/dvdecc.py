@@ -545,8 +545,9 @@ class Closed:
 
 def main() -> None:
     signal.signal(signal.SIGINT, signal.SIG_DFL)
-    stdin, stdout, stderr = (
-        stream.buffer if stream else Closed() for stream in (sys.stdin, sys.stdout, sys.stderr))
+    stdin = sys.stdin.buffer.raw if sys.stdin else Closed()  # no byte is read ahead
+    stdout, stderr = (
+        stream.buffer if stream else Closed() for stream in (sys.stdout, sys.stderr))
     # Everything is flushed; after a fault nothing may be written once more, as exit would try.
     os._exit(run(sys.argv[1:], stdin, stdout, stderr))
 
