@@ -156,23 +156,25 @@ def blocks_of(stream):
 @functools.lru_cache(maxsize=None)
 def row_word(j):
     """The codeword of PI with 01 at byte j and zeros at the other 171."""
-    return ecma267.encode(bytes(j) + b"\1" + bytes(171 - j), 10)
+    data = bytes(j) + b"\1" + bytes(171 - j)
+    return data + ecma267.parity_bytes(data, 10)
 
 
 @functools.lru_cache(maxsize=None)
 def column_word(i):
     """The codeword of PO with 01 at byte i and zeros at the other 191."""
-    return ecma267.encode(bytes(i) + b"\1" + bytes(191 - i), 16)
+    data = bytes(i) + b"\1" + bytes(191 - i)
+    return data + ecma267.parity_bytes(data, 16)
 
 
 def add_word(block, column, row, factor=1):
     """Adds to a block the product of a column, a row and a factor."""
     for i, of_column in enumerate(column):
         if of_column:
-            value = ecma267.multiply(of_column, factor)
+            value = ecma267.TIMES[of_column][factor]
             for j, of_row in enumerate(row):
                 if of_row:
-                    block.add(i, j, ecma267.multiply(value, of_row))
+                    block.add(i, j, ecma267.TIMES[value][of_row])
 
 
 def change_frame(block, f, changes):
@@ -290,7 +292,7 @@ def other_column(draw, block):
     word, row = column_word(191)[191:], row_word(171)[171:]
     for t in range(8):
         add_word(block, bytes(first + t) + b"\1", bytes(j) + row, word[t])
-    factor = next(v for v in range(256) if ecma267.multiply(v, row[10]) == word[8])
+    factor = ecma267.TIMES[row[10]].index(word[8])
     add_word(block, bytes(first + 8) + b"\1", bytes(j - 10) + row, factor)
     return f"another column {j} from row {first} on"
 

@@ -119,14 +119,27 @@ def master(draw):
     return Case(said, ["master", *shuffled(draw, pairs_of(words))], data)
 
 
-@for_each({"single": 1, "parallel": 1, "opposite": 1})
-def master_every_zone(draw, command):
-    """As far as the first block of the Control Data Zone."""
-    layer1 = 0 if command == "single" else draw.randint(1, 16)
-    disk = Disk(command, 16 * draw.randint(1, 40), layer1, "all", draw.choice((0, 1)), draw.choice((0, 16, 20)))
-    said = f"master: all zones, {command}, {disk.sectors0} and {layer1} sectors, as far as the first control block"
+@kind(1, shape="single")
+@kind(1, shape="parallel")
+@kind(1, shape="opposite")
+def master_lead_in(draw, shape):
+    """The lead-in as far as the first block of the Control Data Zone."""
+    layer1 = 0 if shape == "single" else draw.randint(1, 16)
+    disk = Disk(shape, 16 * draw.randint(1, 40), layer1, "all", draw.choice((0, 1)), draw.choice((0, 16, 20)))
+    said = f"master: all zones, {shape}, {disk.sectors0} and {layer1} sectors, as far as the first control block"
     words = ["master", *disk.options(), "--cpr", "0123456789AB"]
     return Case(said, words, b"", (disk.initial + 33) * BLOCK - draw.choice((0, 1, 182)))
+
+
+@kind(1, shape="parallel")
+@kind(1, shape="opposite")
+def master_layer_1(draw, shape):
+    """All of a disk with the opposite track path, or the parallel one as far as the first control block of layer 1."""
+    disk = Disk(shape, 32, draw.choice((16, 3)), "all", draw.randrange(2), 1)
+    limit = None if shape == "opposite" else (2 * disk.initial + 256 + 2 + 1 + 33) * BLOCK
+    said = f"master: all zones, {shape}, 32 and {disk.sectors1} sectors, initial {disk.initial}, with layer 1"
+    data = captures.image_bytes("numbers", disk.sectors())
+    return Case(said, ["master", *disk.options(), "--cpr", draw.randbytes(6).hex()], data, limit)
 
 
 @kind(5)
@@ -316,19 +329,14 @@ def full_output(draw, command):
 @functools.lru_cache(maxsize=None)
 def control_block(shape, change=()):
     """The first control block of a disk with bytes added to its physical format."""
-    disk = Disk(shape, 32, 0 if shape == "single" else 16, "all")
-    sector = bytearray(ecma267.physical_format(disk.shape, disk.sectors0, disk.sectors1, 0))
+    layout = ecma267.Layout(shape, 32, 0 if shape == "single" else 16)
+    zone = ecma267.Zone(0x2F200, 1, ecma267.LEAD_IN, 0, ecma267.CONTROL)
+    sectors = [ecma267.main_data(layout, zone, f) for f in range(16)]
+    added = bytearray(2048)
     for at, byte in change:
-        sector[at] ^= byte
-    frames_ = [
-        ecma267.scrambled_frame(
-            ecma267.identification(ecma267.LEAD_IN, 0, shape != "single", 0x2F200 + f),
-            bytes(6),
-            bytes(sector) if f == 0 else bytes(2048),
-        )
-        for f in range(16)
-    ]
-    return b"".join(ecma267.recording_rows(ecma267.block(frames_)))
+        added[at] = byte
+    sectors[0] = ecma267.added(sectors[0], added)
+    return ecma267.recording(ecma267.disk_block(layout, zone, bytes(6), sectors))
 
 
 @kind(9)
@@ -474,28 +482,17 @@ def convert_every_zone(draw):
 # cdread
 
 
-def word_places(word, kind_):
-    """The places of a P or a Q word of a CD-ROM sector, by ECMA-130."""
-    if kind_ == "P":
-        pairs = [43 * m + word // 2 for m in range(26)]
-    else:
-        n = word // 2
-        pairs = [(44 * m + 43 * n) % 1118 for m in range(43)] + [1118 + n, 1144 + n]
-    return [12 + 2 * pair + word % 2 for pair in pairs]
-
-
 def cd_damage(draw, sector):
     """Damage of a sector that is always repaired, or just more than that."""
     what = draw.choice(("one byte in P words", "all of a P word", "two P words", "Q parity", "anywhere", "sync", "both halves"))
-    p_words = [word_places(word, "P") for word in range(86)]
     if what == "one byte in P words":
-        for places in draw.sample(p_words, draw.randint(1, 86)):
+        for places in draw.sample(ecma130.P_WORDS, draw.randint(1, 86)):
             sector[draw.choice(places)] ^= draw.randint(1, 255)
     elif what in ("all of a P word", "two P words"):
-        for places in draw.sample(p_words, 1 if what == "all of a P word" else 2):
+        for places in draw.sample(ecma130.P_WORDS, 1 if what == "all of a P word" else 2):
             for at in draw.sample(places, draw.randint(2, 26)):
                 sector[at] ^= draw.randint(1, 255)
-        for places in draw.sample(p_words, draw.randrange(20)):
+        for places in draw.sample(ecma130.P_WORDS, draw.randrange(20)):
             sector[draw.choice(places)] ^= draw.randint(1, 255)
     elif what == "Q parity":
         for at in draw.sample(range(2248, 2352), draw.randint(1, 60)):
@@ -513,8 +510,8 @@ def cd_damage(draw, sector):
 
 def made_anew(sector):
     """A sector whose parity is that of its other bytes."""
-    sector[2076:] = ecma130.parity(bytes(sector[12:2076]))
-    return sector
+    for word in ecma130.P_WORDS + ecma130.Q_WORDS:
+        sector[word[-2]], sector[word[-1]] = ecma267.parity_bytes([sector[at] for at in word[:-2]], 2)
 
 
 def wrong_sector(draw, sector):
@@ -663,7 +660,8 @@ def failing_streams(draw, command):
     """Both are run as processes, with a stream that can't be read or written."""
     pairs = [[option, VALUES[option][0][0]] for option in TAKEN[command][0]]
     size = {"frames": 2048, "cdmake": 2048, "cdread": 2352, "master": 2048, "merge": 2 * BLOCK, "assemble": 2366}
-    how = draw.choice(("</", "<&-", ">/dev/full", ">&-", "2>&- >/dev/null", "2>/dev/full >/dev/null", ""))
+    # (a folder as input isn't among these: Python itself refuses to start with one)
+    how = draw.choice(("0>/dev/null", "<&-", ">/dev/full", ">&-", "2>&- >/dev/null", "2>/dev/full >/dev/null", ""))
     words = [command, *shuffled(draw, pairs)]
     return Case(f"{command}: streams {how or 'as always'}", words, bytes(size.get(command, BLOCK)), None, how)
 
