@@ -576,6 +576,8 @@ def is_seen(changed, names):
             tried, expected, seconds = EXPECTED[name]
             signal.setitimer(signal.ITIMER_REAL, seconds)
             answer(run, tried, expected)
+    except (NameError, SyntaxError):
+        raise
     except (Seen, Exception):
         return True
     finally:
