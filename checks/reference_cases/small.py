@@ -1,31 +1,15 @@
-"""Tries that the comparison of checks/reference sees each constant and formula of the reference.
-
-MUTATIONS changes one line of the reference at a time. Each change has to give another answer than the reference as it is, on
-one of the small cases below: they are runs of dvdecc, as the drawn cases are, and no program is needed."""
+"""The small cases that see the mutations of the reference. Each is a run of dvdecc, as the drawn cases are, and has a
+name that says what goes in."""
 
 import functools
-import importlib
-import io
-import multiprocessing
-import os
 import random
-import shutil
-import signal
-import sys
-import tempfile
-import time
-import traceback
 
-import dvdecc
 import ecma130
 import ecma267
-import reference_captures as captures
-from reference_captures import BLOCK, Block, Disk
-from reference_cases import Case
-from reference_table import MUTATIONS
+from reference_cases import captures
+from reference_cases.captures import BLOCK, Block, Disk
+from reference_cases.drawn import Case
 
-FOLDER = os.path.dirname(os.path.realpath(dvdecc.__file__))
-MODULES = [name[:-3] for name in sorted(os.listdir(FOLDER)) if name.endswith(".py")]
 CASES = {}
 
 
@@ -212,7 +196,8 @@ def real_block(layout, zone):
 
 
 def surface(shape):
-    """A survey of all zones. The first block of each zone is as it is made, but for the data, and all others are marked."""
+    """A survey of all zones. The first block of each zone but those of the data is as it is made, and all others are
+    marked."""
     disk = Disk(shape, 32, 0 if shape == "single" else 16, "all", 1, 2)
     layout = ecma267.Layout(shape, disk.sectors0, disk.sectors1, 1, 2)
     blocks, firsts = [], [zone.first for zone in ecma267.information_zone(layout)]
@@ -326,7 +311,7 @@ def right_bytes_with_marks():
 def lead_in(change, second=((1, 0x03),)):
     """The input of info: a control block with some bytes of its physical format changed, and another after it."""
     blocks = [Block(bytes(BLOCK), 1)] * 32 + [control(change), control(second, 1)]
-    return reading("info", blocks, Disk("single", 16, 0, "all"), "marked")._replace(arguments=["info", "--form", "marked"])
+    return Case("", ["info", "--form", "marked"], captures.capture_bytes("marked", Disk(), blocks, 3))
 
 
 def control(change, number=0):
@@ -338,30 +323,36 @@ def control(change, number=0):
     return Block(ecma267.recording(ecma267.disk_block(layout, zone, bytes(6), sectors)))
 
 
-FIELDS = ((0, 0x04), (1, 0x03), (2, 0xB4), (3, 0x23), (4, 1), (9, 4), (10, 5), (11, 6), (13, 7), (14, 8), (15, 9), (16, 0xFF))
+FIELDS = (
+    (0, 0x04), (1, 0x03), (2, 0xB4), (3, 0x23), (4, 1), (9, 4), (10, 5), (11, 6), (13, 7), (14, 8), (15, 9), (16, 0xFF),
+)
 CASES["fields of a physical format"] = functools.partial(lead_in, FIELDS)
-for _name, _at, _byte in (("category", 0, 0x10), ("size", 1, 0x80), ("layers", 2, 0x40), ("first", 7, 1), ("last", 9, 3)):
-    CASES[f"another {_name}"] = functools.partial(lead_in, ((_at, _byte),))
+OTHERS = {"category": (0, 0x10), "size": (1, 0x80), "layers": (2, 0x40), "first": (7, 1), "last": (9, 3)}
+for _name, _change in OTHERS.items():
+    CASES[f"another {_name}"] = functools.partial(lead_in, (_change,))
 CASES["a cutting area"] = functools.partial(lead_in, ((16, 0x80), (2, 0x10)))
+
+
+def listed_info(blocks, initial=0):
+    data = captures.capture_bytes("listed", Disk("single", 16, 0, "all", initial), blocks)
+    return Case("", ["info", "--form", "listed"], data)
 
 
 @case("no control block")
 def no_control_block():
     blocks = [Block(bytes(BLOCK), 1)] * 224
-    return Case("", ["info", "--form", "listed"], captures.capture_bytes("listed", Disk("single", 16, 0, "all", 0), blocks))
+    return listed_info(blocks)
 
 
 @case("the last control block")
 def last_control_block():
     blocks = [Block(bytes(BLOCK), 1)] * 223 + [control((), 191)]
-    return Case("", ["info", "--form", "listed"], captures.capture_bytes("listed", Disk("single", 16, 0, "all"), blocks))
+    return listed_info(blocks)
 
 
 @case("a listed lead-in")
 def listed_lead_in():
-    disk = Disk("single", 16, 0, "all", 3)
-    blocks = [Block(bytes(BLOCK), 1)] * 35 + [control(())]
-    return Case("", ["info", "--form", "listed"], captures.capture_bytes("listed", disk, blocks))
+    return listed_info([Block(bytes(BLOCK), 1)] * 35 + [control(())], 3)
 
 
 def listed_unit(*numbers):
@@ -488,7 +479,7 @@ def cd_sectors(address, change=(), parity=True, count=1):
 
 CASES["made CD-ROM sectors"] = lambda: Case("", ["cdmake", "--address", "449999", "--sectors", "1"], drawn(1))
 CASES["two made CD-ROM sectors"] = lambda: Case("", ["cdmake", "--address", "74", "--sectors", "2"], drawn(2))
-CASES["a CD-ROM sector of another minute"] = lambda: Case("", ["cdmake", "--address", "58500", "--sectors", "1"], drawn(1))
+CASES["a CD-ROM sector of minute 13"] = lambda: Case("", ["cdmake", "--address", "58500", "--sectors", "1"], drawn(1))
 CD = {
     "a CD-ROM sector without damage": ((), True),
     "a CD-ROM sector of another mode": (((15, 2),), True),
@@ -507,117 +498,3 @@ for _name, (_change, _parity) in CD.items():
     CASES[_name] = functools.partial(cd_sectors, 150, _change, _parity)
 CASES["CD-ROM sectors of two addresses"] = functools.partial(cd_sectors, 4499, (), False, 2)
 CASES["drawn blocks"] = lambda: Case("", ["exercise", "--seed", "1", "--blocks", "2"])
-
-
-def case_of(name):
-    """A case by its name, or arguments over an empty input after a dollar sign."""
-    if name.startswith("$ "):
-        return Case("", name[2:].split())
-    return CASES[name]()
-
-
-class Seen(BaseException):
-    """An answer is another one than that of the reference, or doesn't come in time."""
-
-
-class Expecting(io.RawIOBase):
-    """An output that has to be what is expected, up to its limit."""
-
-    def __init__(self, expected, limit=None):
-        super().__init__()
-        self.expected, self.limit, self.count = expected, limit, 0
-
-    def write(self, piece):
-        room = len(piece) if self.limit is None else max(0, self.limit - self.count)
-        taken = bytes(piece[:room])
-        if self.expected is not None and self.expected[self.count : self.count + len(taken)] != taken:
-            raise Seen
-        if self.expected is None:
-            self.kept = getattr(self, "kept", b"") + taken
-        self.count += len(taken)
-        if len(piece) > room:
-            raise OSError("no room")
-        return len(piece)
-
-
-def answer(run, tried, expected=(None, None, None)):
-    """Status, output and report of a case. With those that are expected the first difference ends it."""
-    output, report = Expecting(expected[1], tried.limit), Expecting(expected[2])
-    status = run(list(tried.arguments), io.BytesIO(tried.data), output, report)
-    if expected[0] is None:
-        return status, getattr(output, "kept", b""), getattr(report, "kept", b"")
-    if (status, output.count, report.count) != (expected[0], len(expected[1]), len(expected[2])):
-        raise Seen
-    return expected
-
-
-def expected_answer(name):
-    """A case and its answer by the reference as it is."""
-    tried, began = case_of(name), time.monotonic()
-    return name, tried, answer(dvdecc.run, tried), 10 + 10 * (time.monotonic() - began)
-
-
-EXPECTED = {}  # by its name a case, its answer, and the seconds that are allowed for it
-
-
-def late(_number, _frame):
-    raise Seen
-
-
-def is_seen(changed, names):
-    """Whether a changed folder gives another answer on one of the cases."""
-    for module in MODULES:
-        sys.modules.pop(module, None)
-    sys.path.insert(0, changed)
-    signal.signal(signal.SIGALRM, late)
-    try:
-        run = importlib.import_module("dvdecc").run
-        for name in names:
-            tried, expected, seconds = EXPECTED[name]
-            signal.setitimer(signal.ITIMER_REAL, seconds)
-            answer(run, tried, expected)
-    except (NameError, SyntaxError):
-        raise
-    except (Seen, Exception):
-        return True
-    finally:
-        signal.setitimer(signal.ITIMER_REAL, 0)
-        sys.path.remove(changed)
-    return False
-
-
-def try_one(number):
-    """What is wrong with a mutation, or nothing."""
-    words, file, old, new, names = MUTATIONS[number]
-    with open(os.path.join(FOLDER, file), encoding="utf-8") as text:
-        was = text.read()
-    if was.count(old) != 1 or old == new:
-        return f"{words}: {file} has {old!r} {was.count(old)} times"
-    with tempfile.TemporaryDirectory() as changed:
-        for module in MODULES:
-            shutil.copy(os.path.join(FOLDER, module + ".py"), changed)
-        with open(os.path.join(changed, file), "w", encoding="utf-8") as text:
-            text.write(was.replace(old, new))
-        try:
-            if is_seen(changed, names):
-                return None
-        except BaseException:
-            return f"{words}: {traceback.format_exc()}"
-    return f"{words}: {file}, {old!r} as {new!r} isn't seen by {', '.join(names)}"
-
-
-def try_all(jobs, word):
-    chosen = [number for number, mutation in enumerate(MUTATIONS) if word in mutation[0]]
-    names = sorted({name for number in chosen for name in MUTATIONS[number][4]}, key=lambda name: "control" not in name)
-    failed = 0
-    # Each process makes the cases once more where it is forked before; so the answers come first.
-    with multiprocessing.Pool(jobs) as pool:
-        for name, *expected in pool.imap_unordered(expected_answer, names):
-            EXPECTED[name] = expected
-    with multiprocessing.Pool(jobs, maxtasksperchild=1) as pool:
-        for said in pool.imap_unordered(try_one, chosen):
-            if said is not None:
-                failed += 1
-                print(f"FAILED: {said}", flush=True)
-    print(f"{len(chosen) - failed} passed, {failed} failed")
-    return int(failed > 0)

@@ -1,5 +1,5 @@
-"""Disks, captured blocks and their damage, for the cases of checks/reference. Recordings are made by the reference; what
-is damaged, marked and put into a form is done here by the tables of docs/FORMATS.md alone."""
+"""Disks, captured blocks and their damage, for the cases of checks/reference. Recordings are made by the reference.
+They are damaged, marked and put into a form here, by the tables of docs/FORMATS.md alone."""
 
 import functools
 import io
