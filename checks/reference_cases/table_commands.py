@@ -10,7 +10,7 @@ RADIUS, BEYOND, SUMS = "rows at the radius", "rows beyond the radius", "sums of 
 
 DECODING = [
     ("2e + s: an error costs two", D, "2 * changed + len(erasures)", "3 * changed + len(erasures)", RADIUS),
-    ("2e + s: an erasure costs one", D, "2 * changed + len(erasures)", "2 * errors + 2 * len(erasures)", RADIUS),
+    ("2e + s: an erasure costs one", D, "2 * changed + len(erasures)", "2 * changed + 2 * len(erasures)", RADIUS),
     ("2e + s is at most R", D, "if cost <= parity", "if cost < parity", RADIUS),
     ("the most errors", D, "len(sums) // 2, 0, -1", "len(sums) // 2 - 1, 0, -1", RADIUS),
     ("a codeword at the end", D, "and is_codeword(answer, parity)", "", BEYOND),
