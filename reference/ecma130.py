@@ -1,6 +1,6 @@
 """CD-ROM sectors of Mode 1 by ECMA-130, 2nd edition, for reading and for running.
 
-Written from the standard's clauses and this project's pages and specification of formats, by
+Written from the standard's clauses and this project's texts on its formats, by
 somebody who had not read the program (README.md). Sectors are 2,352 bytes from their sync on,
 unscrambled, as image files keep them. The field is that of ecma267.py; both codes have two parity
 bytes.

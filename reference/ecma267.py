@@ -1,7 +1,7 @@
 """The data format of ECMA-267, 3rd edition (DVD read-only disk), for reading and for running.
 
-Written from the standard's clauses and this project's pages and specification of formats, by
-somebody who had not read the program (README.md). It follows the standard's order: clauses 16 to
+Written from the standard's clauses and this project's texts on its formats, by somebody who had
+not read the program (README.md). It follows the standard's order: clauses 16 to
 19 by their numbers, and the clauses of Section 5, Format of the Information Zone(s), by their
 titles. Where the standard leaves a choice, "own" says that it is this project's. Rows, bytes and
 frames are counted from 0.
