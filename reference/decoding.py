@@ -1,8 +1,8 @@
 """Correction of damaged words and blocks of ECMA-267, by the rules of this project.
 
-Written from docs/MANUAL.md and this project's texts on its commands, by somebody who had not read the
-program (README.md). The standard says which words are codewords, and not how to correct. Here a
-word is corrected in Peterson's way: by two systems of linear equations, one for the locations of
+Written from docs/MANUAL.md and this project's texts on its commands, by somebody who had not read
+the program (README.md). The standard says which words are codewords, and not how to correct. Here
+a word is corrected in Peterson's way: by two systems of linear equations, one for the locations of
 the errors and one for their values. Whether the result is near the word is tested at the end.
 """
 

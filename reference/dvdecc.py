@@ -1,7 +1,7 @@
 """The commands of dvdecc with the same arguments, output, report and exit status, slow and plain.
 
-Written from docs/MANUAL.md, docs/FORMATS.md and this project's texts on its commands, by somebody who
-had not read the program (README.md). Run it so:
+Written from docs/MANUAL.md, docs/FORMATS.md and this project's texts on its commands, by somebody
+who had not read the program (README.md). Run it so:
 
     python3 reference/dvdecc.py COMMAND [OPTION VALUE].. < input > output 2> report
 """
