@@ -8,6 +8,7 @@ pub mod OnlyThese
 pub mod OpenedRuns
 pub mod OverTaken
 pub mod PromisesKept
+pub mod RefusedReport
 pub mod RunEnds
 pub mod RunLemmas
 pub mod SomethingDone

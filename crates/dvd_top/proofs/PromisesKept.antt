@@ -1,7 +1,6 @@
 -- The promise in plain words holds of every run, and of each call that doesn't come to a run.
 use Rattle.std.proofs.Common.{◌≡◌, ◌≢◌, ◌⊎◌, ◌∙◌, inl, inr, ℕ, List, [], ◌++◌, None, Some, refl, ap, sym, subst, ◌+◌, ◌*◌, length, arith}
 use Rattle.std.specs.Prelude.{codes}
-use Rattle.dvd_ports.specs.Bytes.{Consumes}
 use Rattle.dvd_capture.specs.declared.form.Form.{Form}
 use Rattle.dvd_capture.specs.declared.form.Form.TheVariants.{Listed, Marked, Plain}
 use Rattle.dvd_layout.specs.Lengths.{first_fault}
@@ -26,11 +25,12 @@ use Rattle.dvd_top.specs.Statuses.{status_of}
 use Rattle.dvd_top.specs.declared.status.Status.{Status}
 use Rattle.dvd_top.specs.declared.status.Status.TheVariants as status
 use Rattle.dvd_words.specs.Settings.{IsLayoutOf, broken_rule}
-use Rattle.dvd_words.specs.declared.table.Command.TheVariants.{Master}
+use Rattle.dvd_words.specs.declared.table.Command.TheVariants.{Master, Recover}
 use Rattle.dvd_words.specs.declared.settings.Settings.{Settings}
 use Rattle.dvd_commands.proofs.OneRun.{one_layout}
 use Rattle.dvd_commands.specs.Meaning.{GoesBy}
 use Rattle.dvd_top.proofs.MasteredStream.{image_mastered, stream_recovered}
+use Rattle.dvd_top.proofs.RefusedReport.{capture_reported, refused_blocks}
 use Rattle.dvd_top.proofs.RunEnds.{closes_is, in_words}
 use Rattle.std.proofs.lemmas.List.{append_cancel_left, take_all}
 use Rattle.dvd_capture.specs.Captured.{block_size}
@@ -129,10 +129,20 @@ run_recovers settings old new result run layout capture is plain is_layout known
     let (own, is_own, runs) = subst (λ c. GoesBy (meaning c) settings capture run.loop) is goes_over in
     let over = subst (λ l. IsOutcome (recover_units l settings.zones settings.form) capture run.loop) (one_layout settings own layout is_own is_layout) runs in
     let (image, taken, ends) = capture_recovered layout settings.zones settings.form capture run.loop plain size over (faultless settings old new result run capture known none) in
-    let status_is : result ≡ status_of run.loop.end = run.is_status ∙ ap status_of (same settings old new result run capture known none) in
+    let (report, end) = capture_reported layout settings.zones settings.form capture run.loop plain
+    (size ∙ ap (λ n. length (plan_of layout settings.zones) * n) (size-is settings.form plain)) over
+    (faultless settings old new result run capture known none) in
+    let line : run.line.lines ≡ closing_line Recover run.loop.end =
+    closed settings old new result run capture known none ∙ ap (λ c. closing_line c run.loop.end) is in
     inr (
-      elim (over_status run.loop.end ends) [ inl done ↦ inl (status_is ∙ done) | inr damaged ↦ inr (status_is ∙ damaged) ],
-      (run.loop.out, image, subst (Consumes old.source.bytes new.source.bytes) taken run.moved.reads, run.moved.writes),
+      run.loop.out,
+      run.loop.lines,
+      refused_blocks layout settings.zones settings.form capture,
+      image,
+      report,
+      run.is_status ∙ ap status_of (same settings old new result run capture known none ∙ end),
+      subst (λ l. HaveMoved old new capture run.loop.out (run.loop.lines ++ l)) (line ∙ ap (closing_line Recover) end)
+          (subst (λ l. HaveMoved old new l run.loop.out (run.loop.lines ++ run.line.lines)) taken run.moved),
     )
 
 -- and gives the image of a stream back

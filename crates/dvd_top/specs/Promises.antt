@@ -1,21 +1,29 @@
 -- The promise in plain words, for a reader of this page alone: what `master` and `recover` give where no call of a
 -- stream failed. In each there may be no memory instead, before the first byte.
-use Rattle.std.specs.Prelude.{◌≡◌, ◌⊎◌, ℕ, ◌*◌, ◌++◌, List, length, take, drop, codes, Some, slice_get}
-use Rattle.dvd_ports.specs.Bytes.{Appends, Consumes}
-use Rattle.std.specs.List.{flat_map}
+use Rattle.std.specs.Prelude.{◌≡◌, ◌⊎◌, ℕ, ◌*◌, ◌++◌, List, [], length, take, drop, codes, count_by, Option, None, Some, slice_get}
+use Rattle.std.specs.List.{flat_map, range_with_len}
+use Rattle.std.specs.Option.{is_some}
 use Rattle.coding.specs.Product.{IsBlockOf}
 use Rattle.coding.specs.Recording.{recording}
 use Rattle.dvd_capture.specs.Captured.{captured_marks, captured_rows, record_size}
 use Rattle.dvd_capture.specs.declared.form.Form.{Form}
 use Rattle.dvd_capture.specs.declared.form.Form.TheVariants.{Listed, Plain}
-use Rattle.dvd_decoding.specs.Salvage.{block_out}
+use Rattle.dvd_decoding.specs.Reading.{block_cause}
+use Rattle.dvd_decoding.specs.Salvage.{block_out, saved_in}
+use Rattle.dvd_decoding.specs.declared.cause.Cause.{Cause}
 use Rattle.dvd_layout.specs.Place.{image_sectors, total_sectors}
 use Rattle.dvd_layout.specs.Plan.{plan_of}
 use Rattle.dvd_layout.specs.declared.entry.BlockPlan.{BlockPlan}
+use Rattle.dvd_layout.specs.declared.entry.Content.{Content}
+use Rattle.dvd_layout.specs.declared.entry.Content.TheVariants.{Control, Image, Reference, Zero}
 use Rattle.dvd_layout.specs.declared.layout.Layout.{Layout}
 use Rattle.dvd_layout.specs.declared.layout.Zones.{Zones}
 use Rattle.dvd_ports.specs.Causes.{Rose}
+use Rattle.dvd_loop.specs.Machine.{end_by}
 use Rattle.dvd_loop.specs.Streams.{HaveMoved, Streams}
+use Rattle.dvd_report.specs.Lines.{damage_line}
+use Rattle.dvd_top.specs.Lines.{closing_line}
+use Rattle.dvd_top.specs.Statuses.{status_of}
 use Rattle.dvd_commands.specs.Master.{filled_block, frames_of, image_part}
 use Rattle.dvd_top.specs.declared.status.Status.{Status}
 use Rattle.dvd_top.specs.declared.status.Status.TheVariants as status
@@ -62,17 +70,44 @@ pub record IsImageOf (layout : Layout) (zones : Zones) (form : Form) (capture im
       ≡ flat_map (λ sector. sector)
       (take (image_sectors layout entry.content) (block_out (captured_rows form own) (captured_marks form own) entry))
 
--- `recover` of any bytes of the right length reads them, writes the image sectors of this capture, and ends as Done or
--- Damaged.
+-- why a block of this content is refused: not at all if it holds no image
+abbrev pub cause_in : Content → Option Cause → Option Cause
+cause_in (Image sector) cause = cause
+cause_in Zero cause = None
+cause_in Reference cause = None
+cause_in Control cause = None
+
+-- the line of block k where it is refused for this cause
+abbrev pub text_of : ℕ → BlockPlan → ℕ → Option Cause → List ℕ
+text_of k entry saved None = []
+text_of k entry saved (Some cause) = damage_line k entry cause saved
+
+-- What is reported of a plain or a marked capture: in order, for each block that is refused, its line with the first
+-- cause and how many of its frames are right by themselves; and so many blocks are refused. A block is refused where two
+-- passes determine none, or a frame of the one that they determine isn't right at its place.
+pub record IsReportOf (layout : Layout) (zones : Zones) (form : Form) (capture lines : List ℕ) (refused : ℕ) : Type 0 where
+  pub cause : ℕ → Option Cause
+  pub text : ℕ → List ℕ
+  pub each : (k : ℕ) (entry : BlockPlan) (own : List ℕ) → slice_get (plan_of layout zones) k ≡ Some entry
+      → own ≡ take (208 * record_size form) (drop (208 * record_size form * k) capture)
+      → (cause k ≡ cause_in entry.content (block_cause (captured_rows form own) (captured_marks form own) entry))
+      × (text k ≡ text_of k entry (saved_in (captured_rows form own) (captured_marks form own) entry) (cause k))
+  pub lines_are : lines ≡ flat_map text (range_with_len 0 (length (plan_of layout zones)))
+  pub count : refused ≡ count_by (λ k. is_some (cause k)) (range_with_len 0 (length (plan_of layout zones)))
+
+-- `recover` of any bytes of the right length reads them, and writes the image sectors of this capture. It reports the
+-- lines of the refused blocks and the closing line, and ends as Done if none is refused, else as Damaged with their
+-- number.
 abbrev pub Recovers : Settings → Streams → Streams → Status → Type 0
 Recovers settings old new result =
     (layout : Layout) (capture : List ℕ) → settings.command ≡ Recover → (settings.form ≡ Listed → ⊥)
     → IsLayoutOf settings layout → WasInput old new capture
     → length capture ≡ length (plan_of layout settings.zones) * (208 * record_size settings.form)
     → NoneFailed old new → (result ≡ status.NoMemory)
-    ⊎ (((result ≡ status.Done) ⊎ (result ≡ status.Damaged))
-    × ((image : List ℕ) × IsImageOf layout settings.zones settings.form capture image
-    × Consumes old.source.bytes new.source.bytes capture × Appends old.output.bytes new.output.bytes image))
+    ⊎ ((image lines : List ℕ) × (refused : ℕ) × IsImageOf layout settings.zones settings.form capture image
+    × IsReportOf layout settings.zones settings.form capture lines refused
+    × (result ≡ status_of (end_by refused))
+    × HaveMoved old new capture image (lines ++ closing_line Recover (end_by refused)))
 
 -- `recover` of the stream of an image gives the image back, reports `done` alone, and ends as Done.
 abbrev pub GivesImage : Settings → Streams → Streams → Status → Type 0
