@@ -33,7 +33,7 @@ use Rattle.dvd_commands.proofs.EntryBlocks.{length-captured_marks, length-captur
 use Rattle.dvd_commands.proofs.ForRuns.{begins_so, size-is}
 use Rattle.dvd_commands.proofs.RecoveredWidths.{never_last, recovered-wide}
 use Rattle.dvd_read.proofs.BlockRead.{read-determined}
-use Rattle.dvd_top.specs.Promises.{IsReportOf, cause_in, text_of}
+use Rattle.dvd_top.specs.Promises.{IsReportOf, refusal_cause, refusal_text}
 use Rattle.dvd_top.proofs.OnlyThese.{own_is}
 
 -- What is reported for a unit, and whether it is bad.
@@ -103,12 +103,12 @@ module _ (units : Units) (size : ℕ → ℕ) (begins : (k : ℕ) (bytes : List 
 -- why a captured block is refused by its entry of the plan, and its line
 abbrev pub cause_by : Form → List ℕ → Option BlockPlan → Option Cause
 cause_by form own None = None
-cause_by form own (Some entry) = cause_in entry.content (block_cause (captured_rows form own) (captured_marks form own) entry)
+cause_by form own (Some entry) = refusal_cause entry.content (block_cause (captured_rows form own) (captured_marks form own) entry)
 
 abbrev pub text_by : ℕ → Form → List ℕ → Option BlockPlan → List ℕ
 text_by k form own None = []
 text_by k form own (Some entry) =
-    text_of k entry (saved_in (captured_rows form own) (captured_marks form own) entry) (cause_by form own (Some entry))
+    refusal_text k entry (saved_in (captured_rows form own) (captured_marks form own) entry) (cause_by form own (Some entry))
 
 module _ (layout : Layout) (k : ℕ) (entry : BlockPlan) (form : Form) (own : List ℕ) (steps : List Step) (kind : UnitKind) where
   abbrev rows : List (List ℕ)
@@ -119,7 +119,7 @@ module _ (layout : Layout) (k : ℕ) (entry : BlockPlan) (form : Form) (own : Li
 
   -- what is done for a block by its cause
   abbrev IsSaid : Option Cause → Type 0
-  IsSaid cause = Says (text_of k entry (saved_in rows marks entry) cause) (is_some cause) steps kind
+  IsSaid cause = Says (refusal_text k entry (saved_in rows marks entry) cause) (is_some cause) steps kind
 
   -- a block that holds image
   image_says : IsImageDone layout k entry rows marks steps kind → IsSaid (block_cause rows marks entry)
@@ -130,7 +130,7 @@ module _ (layout : Layout) (k : ℕ) (entry : BlockPlan) (form : Form) (own : Li
       subst IsSaid (sym refused.first) (record { reports = ap reported refused.reports ∙ append-nil _; bad = ap bad_of refused.bad })
 
   -- any block
-  entry_says : (content : Content) → IfImage (IsImageDone layout k entry rows marks) content steps kind → IsSaid (cause_in content (block_cause rows marks entry))
+  entry_says : (content : Content) → IfImage (IsImageDone layout k entry rows marks) content steps kind → IsSaid (refusal_cause content (block_cause rows marks entry))
   entry_says (Image sector) does = image_says does
   entry_says Zero does = record { reports = ap reported does.0; bad = ap bad_of does.1 }
   entry_says Reference does = record { reports = ap reported does.0; bad = ap bad_of does.1 }
@@ -181,8 +181,8 @@ module _ (layout : Layout) (zones : Zones) (form : Form) (capture : List ℕ) (a
           let same : block_at form capture k ≡ own = sym (own_is ∙ block_at-is k) in (
             ap (cause_by form (block_at form capture k)) is_there ∙ ap (λ l. cause_by form l (Some entry)) same,
             ap (text_by k form (block_at form capture k)) is_there
-                ∙ ap (λ l. text_of k entry (saved_in (captured_rows form l) (captured_marks form l) entry) (cause_by form (block_at form capture k) (Some entry))) same
-                ∙ ap (text_of k entry (saved_in (captured_rows form own) (captured_marks form own) entry)) (ap (cause_by form (block_at form capture k)) (sym is_there)),
+                ∙ ap (λ l. refusal_text k entry (saved_in (captured_rows form l) (captured_marks form l) entry) (cause_by form (block_at form capture k) (Some entry))) same
+                ∙ ap (refusal_text k entry (saved_in (captured_rows form own) (captured_marks form own) entry)) (ap (cause_by form (block_at form capture k)) (sym is_there)),
           );
       lines_are = says_all.lines;
       count = refl;

@@ -71,16 +71,16 @@ pub record IsImageOf (layout : Layout) (zones : Zones) (form : Form) (capture im
       (take (image_sectors layout entry.content) (block_out (captured_rows form own) (captured_marks form own) entry))
 
 -- why a block of this content is refused: not at all if it holds no image
-abbrev pub cause_in : Content → Option Cause → Option Cause
-cause_in (Image sector) cause = cause
-cause_in Zero cause = None
-cause_in Reference cause = None
-cause_in Control cause = None
+abbrev pub refusal_cause : Content → Option Cause → Option Cause
+refusal_cause (Image sector) cause = cause
+refusal_cause Zero cause = None
+refusal_cause Reference cause = None
+refusal_cause Control cause = None
 
 -- the line of block k where it is refused for this cause
-abbrev pub text_of : ℕ → BlockPlan → ℕ → Option Cause → List ℕ
-text_of k entry saved None = []
-text_of k entry saved (Some cause) = damage_line k entry cause saved
+abbrev pub refusal_text : ℕ → BlockPlan → ℕ → Option Cause → List ℕ
+refusal_text k entry saved None = []
+refusal_text k entry saved (Some cause) = damage_line k entry cause saved
 
 -- What is reported of a plain or a marked capture: in order, for each block that is refused, its line with the first
 -- cause and how many of its frames are right by themselves; and so many blocks are refused. A block is refused where two
@@ -90,8 +90,8 @@ pub record IsReportOf (layout : Layout) (zones : Zones) (form : Form) (capture l
   pub text : ℕ → List ℕ
   pub each : (k : ℕ) (entry : BlockPlan) (own : List ℕ) → slice_get (plan_of layout zones) k ≡ Some entry
       → own ≡ take (208 * record_size form) (drop (208 * record_size form * k) capture)
-      → (cause k ≡ cause_in entry.content (block_cause (captured_rows form own) (captured_marks form own) entry))
-      × (text k ≡ text_of k entry (saved_in (captured_rows form own) (captured_marks form own) entry) (cause k))
+      → (cause k ≡ refusal_cause entry.content (block_cause (captured_rows form own) (captured_marks form own) entry))
+      × (text k ≡ refusal_text k entry (saved_in (captured_rows form own) (captured_marks form own) entry) (cause k))
   pub lines_are : lines ≡ flat_map text (range_with_len 0 (length (plan_of layout zones)))
   pub count : refused ≡ count_by (λ k. is_some (cause k)) (range_with_len 0 (length (plan_of layout zones)))
 
