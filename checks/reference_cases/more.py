@@ -272,7 +272,7 @@ def arguments(draw, command):
 @kind(1)
 def no_arguments(draw):
     words = draw.choice(([], [""], ["--"], ["help"], ["--version"], ["-h"], ["--", "master", "--sectors", "2"]))
-    return Case(f"arguments {words}", words)
+    return Case(f"no command: {words}", words)
 
 
 @for_each({"master": 4, "recover": 3, "deep": 1, "survey": 2, "merge": 2, "assemble": 3, "convert": 2, "info": 1})
