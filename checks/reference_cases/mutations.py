@@ -128,11 +128,11 @@ def try_all(jobs, word):
     chosen = [number for number, mutation in enumerate(MUTATIONS) if word in mutation[0]]
     names = sorted({name for number in chosen for name in MUTATIONS[number][4]}, key=lambda name: "control" not in name)
     failed = 0
-    # Each process makes the cases once more where it is forked before; so the answers come first.
-    with multiprocessing.Pool(jobs) as pool:
+    # The answers come first: the processes that try the mutations are forked after them, and so have them.
+    with multiprocessing.get_context("fork").Pool(jobs) as pool:
         for name, *expected in pool.imap_unordered(expected_answer, names):
             EXPECTED[name] = expected
-    with multiprocessing.Pool(jobs, maxtasksperchild=1) as pool:
+    with multiprocessing.get_context("fork").Pool(jobs, maxtasksperchild=1) as pool:
         for said in pool.imap_unordered(try_one, chosen):
             if said is not None:
                 failed += 1
