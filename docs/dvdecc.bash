@@ -1,4 +1,4 @@
-# Completions of dvdecc for bash, written by docs/tables. Sourced by bash_completion, or by hand.
+# Completions of dvdecc for bash, written by tools/tables. Sourced by bash_completion, or by hand.
 _dvdecc() {
     local before=${COMP_WORDS[COMP_CWORD - 1]} command at=1 words=
     [ "${COMP_WORDS[1]}" != --cpu ] || [ "$COMP_CWORD" = 1 ] || at=3
