@@ -1,10 +1,17 @@
 """The data format of ECMA-267, 3rd edition (DVD read-only disk), for reading and for running.
 
 Written from the standard's clauses and this project's texts on its formats, by somebody who had
-not read the program (README.md). It follows the standard's order: clauses 16 to
-19 by their numbers, and the clauses of Section 5, Format of the Information Zone(s), by their
-titles. Where the standard leaves a choice, "own" says that it is this project's. Rows, bytes and
-frames are counted from 0.
+not read the program: README.md, beside this file, says how. It follows the standard's order:
+clauses 16 to 19 by their numbers, and the clauses of Section 5, Format of the Information Zone(s),
+by their titles. "Own" says that the standard leaves a choice, and that this is the project's;
+"textbook", that a function is of coding theory, and which clause needs it.
+
+A sector is 2,048 bytes of an image, the user's data, and becomes the Main Data of one data frame.
+Sixteen frames and their parity are an ECC block: the product of two Reed-Solomon codes, (182, 172)
+for rows and (208, 192) for columns. Modulation and what comes after it (from clause 20 on) is left
+out. What corrects a damaged block is in decoding.py, which uses the syndromes and the mask of an
+ID below; dvdecc.py uses the reading of a physical format. Rows, bytes and frames are counted from
+0.
 """
 
 from functools import lru_cache
@@ -16,14 +23,15 @@ ALPHA = 0x02  # the primitive element
 
 
 def times_x(a: int) -> int:
-    """Clause 18: the polynomial a (bit k is the coefficient of x^k) times x, modulo
+    """Clauses 16.2 and 18: the polynomial a (bit k is the coefficient of x^k) times x, modulo
     x^8 + x^4 + x^3 + x^2 + 1."""
     a = a << 1
     return a ^ 0b1_0001_1101 if a & 0b1_0000_0000 else a
 
 
 def product(a: int, b: int) -> int:
-    """Clause 18: the product of two elements; each power of x in b adds a times that power."""
+    """Textbook, for clause 18: the product of two elements; each power of x in b adds a times that
+    power."""
     total = 0
     for k in range(8):
         if b >> k & 1:
@@ -38,7 +46,7 @@ TIMES = [[product(a, b) for b in range(256)] for a in range(256)]
 
 @lru_cache(maxsize=None)
 def power(a: int, k: int) -> int:
-    """Clause 18: a to the power k."""
+    """Textbook, for clause 18: a to the power k. Kept, as the table is."""
     return 1 if k == 0 else TIMES[power(a, k - 1)][a]
 
 
@@ -46,7 +54,8 @@ def power(a: int, k: int) -> int:
 
 
 def polynomial_product(p: Sequence[int], q: Sequence[int]) -> List[int]:
-    """Clause 18: the product of two polynomials over the field, highest power first."""
+    """Textbook, for clause 18: the product of two polynomials over the field, the highest power
+    first."""
     total = [0] * (len(p) + len(q) - 1)
     for i, a in enumerate(p):
         for j, b in enumerate(q):
@@ -55,7 +64,7 @@ def polynomial_product(p: Sequence[int], q: Sequence[int]) -> List[int]:
 
 
 def with_roots(roots: Sequence[int]) -> List[int]:
-    """Clause 18: the product of (x - root) over some roots."""
+    """Textbook, for clause 18: the product of (x - root) over some roots."""
     total = [1]
     for root in roots:
         total = polynomial_product(total, [1, root])
@@ -80,7 +89,7 @@ def parity_bytes(data: Sequence[int], parity: int) -> bytes:
 
 
 def value(word: Sequence[int], x: int) -> int:
-    """Clause 18: the value of a word's polynomial at x."""
+    """Textbook, for clause 18: the value of a word's polynomial at x, by Horner's rule."""
     times, total = TIMES[x], 0
     for byte in word:
         total = times[total] ^ byte
@@ -88,7 +97,8 @@ def value(word: Sequence[int], x: int) -> int:
 
 
 def syndromes(word: Sequence[int], parity: int) -> List[int]:
-    """Clauses 16.2 and 18: the values at the roots of the generator. All are 0 for a codeword."""
+    """Textbook, for clauses 16.2 and 18: the values at the roots of the generator. All are 0 for a
+    codeword."""
     return [value(word, power(ALPHA, i)) for i in range(parity)]
 
 
@@ -100,11 +110,12 @@ def is_codeword(word: Sequence[int], parity: int) -> bool:
 # Clause 16: Data Frames, 2,064 bytes each.
 
 DATA, LEAD_IN, LEAD_OUT, MIDDLE = 0, 1, 2, 3  # clause 16.1: the areas, bits 27 and 26 of the ID
-SAME_PLACE = 0x0DFFFFFF  # own: the bits of an ID that are compared: area, layer, sector number
+SAME_PLACE = 0x0DFFFFFF  # own: the bits that say a frame's place: area, layer, sector number
 
 
 def identification(area: int, layer: int, two_layers: bool, number: int) -> int:
-    """Clause 16.1: the ID. Bit 29 is the reflectivity; own: 1 on each layer of two."""
+    """Clause 16.1: the ID. Bit 29 is the reflectivity; own: 1 on each layer of two. Bits
+    31, 30, 28 and 25, such as the format type and the tracking method, are 0 here."""
     return two_layers << 29 | area << 26 | layer << 24 | number
 
 
@@ -122,8 +133,9 @@ NO_CPR_MAI = bytes(6)  # clause 16.3: copyright management information; own: zer
 
 
 def bit_remainder(number: int, divisor: int) -> int:
-    """Clause 16.4: the remainder of two polynomials over bits, bit k being the coefficient of
-    x^k. Each step brings the next bit down, and subtracts the divisor where it goes in."""
+    """Textbook, for clause 16.4: the remainder of two polynomials over bits, bit k being the
+    coefficient of x^k. Each step brings the next bit down, and subtracts the divisor where it
+    goes in."""
     rest, top = 0, 1 << (divisor.bit_length() - 1)
     for bit in f"{number:b}":
         rest = rest << 1 | (bit == "1")
@@ -133,7 +145,8 @@ def bit_remainder(number: int, divisor: int) -> int:
 
 
 def edc(covered: bytes) -> bytes:
-    """Clause 16.4: the remainder of the covered bytes times x^32 by x^32 + x^31 + x^4 + 1."""
+    """Clause 16.4: the covered bytes times x^32 are divided by x^32 + x^31 + x^4 + 1; the remainder
+    is the EDC."""
     rest = bit_remainder(int.from_bytes(covered, "big") << 32, 1 << 32 | 1 << 31 | 1 << 4 | 1)
     return rest.to_bytes(4, "big")
 
@@ -209,6 +222,10 @@ def recording(block: Sequence[bytes]) -> bytes:
 
 
 # Section 5, Layout of the Information Zone. Lengths are counted in blocks of sixteen sectors.
+# A layer is recorded along a spiral. On the parallel track path both layers are read from the
+# inside to the outside, each with a lead-in before and a lead-out after its data. On the opposite
+# track path layer 0 is, and then layer 1 from the outside back in: a Middle Zone is at the turn on
+# both layers.
 
 SINGLE, PARALLEL, OPPOSITE = "single", "parallel", "opposite"
 ZERO, REFERENCE, CONTROL, IMAGE = "zero", "reference", "control", "image"
@@ -293,7 +310,8 @@ def information_zone(layout: Layout) -> List[Zone]:
 
 
 def blocks_of(zones: Sequence[Zone]) -> Iterator[Zone]:
-    """Clause 18: the blocks of some zones. A block begins at a multiple of sixteen sectors."""
+    """Section 5, Physical sector numbering: the blocks of some zones, each of sixteen sectors that
+    follow each other. The first sector in the image counts for data alone."""
     for zone in zones:
         for b in range(zone.blocks):
             yield zone._replace(first=zone.first + 16 * b, blocks=1, image=zone.image + 16 * b)
@@ -332,19 +350,21 @@ def main_data(layout: Layout, block: Zone, f: int) -> bytes:
 
 
 def physical_format(layout: Layout, layer: int) -> bytes:
-    """Section 5, Control Data Zone, Physical format information: sector 0 of each block."""
+    """Section 5, Control Data Zone, Physical format information: sector 0 of each block. The last
+    sector is that of the layer, and on the opposite track path that of layer 1; there the last one
+    of layer 0 is stated too, else it is 0."""
     opposite = layout.shape == OPPOSITE
     last_of_disk = last_data_sector(layout, 1 if opposite else layer)
     last_of_layer_0 = last_data_sector(layout, 0) if opposite else 0
     head = [
-        0 << 4 | 1,                                        # book type read-only; version 1
-        0 << 4 | 2,                                        # 120 mm; maximum rate 10.08 Mbit/s
+        0 << 4 | 1,                                        # read-only; own: version 1
+        0 << 4 | 2,                                        # own: 120 mm; rate 10.08 Mbit/s
         layout.two_layers << 5 | opposite << 4 | 1,        # layers; track path; embossed data
         layout.two_layers << 4 | 0,                        # channel bit length; track pitch
         0, *DATA_FIRST.to_bytes(3, "big"),
         0, *last_of_disk.to_bytes(3, "big"),
         0, *last_of_layer_0.to_bytes(3, "big"),
-        0 << 7,                                            # no burst cutting area
+        0 << 7,                                            # own: no burst cutting area
     ]
     return bytes(head) + bytes(2048 - len(head))
 
@@ -365,8 +385,10 @@ class PhysicalFormat(NamedTuple):
 
 
 def read_physical_format(sector: bytes) -> Optional[PhysicalFormat]:
-    """Section 5, Physical format information: the fields of a sector. None for another book type or
-    size, layers that aren't 1 or 2, or a Data Zone that doesn't begin at 030000 or ends before."""
+    """Section 5, Physical format information: the fields of a sector. None for another disk
+    category or size, layers that aren't 1 or 2, or a Data Zone that doesn't begin at 030000 or has
+    a last sector below that. A disk of one layer has the bit of the parallel track path. Own: the
+    other bits aren't looked at."""
     layers = (sector[2] >> 5 & 3) + 1
     first, last, layer0 = (int.from_bytes(sector[k:k + 3], "big") for k in (5, 9, 13))
     if sector[0] >> 4 != 0 or sector[1] >> 4 != 0 or layers > 2:
