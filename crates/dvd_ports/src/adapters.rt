@@ -3,12 +3,13 @@
 //! sees by them whether a call failed. `stopped` says that the last call failed or met the end. No code reads it:
 //! contracts do, through `seen`. They ask that the call that failed was the last, which the counts don't show, since
 //! calls that move bytes leave these as they are. `derive(Drop)` lets an owner let go of a value.
-ghost use Rattle.std.specs.Prelude.{◌≡◌, ◌<◌, [], length, take, None, IfOk, OnErr, is_ok, false, if◌then◌else◌};
+ghost use Rattle.std.specs.Prelude.{◌≡◌, ◌+◌, ◌<◌, [], length, take, None, IfOk, OnErr, is_ok, false, if◌then◌else◌};
 ghost use Rattle.std.specs.Io.KnownBytes.{Appends as GainsKnown};
 ghost use Rattle.dvd_ports.specs.Calls.{IsRead, IsWrite};
 ghost use Rattle.dvd_ports.specs.Causes.{next_count};
 ghost use Rattle.dvd_ports.specs.Whole.{GainsPrefix};
 
+use crate::counted::Counted;
 use crate::moved::Moved;
 use crate::{Failed, Sink, Source};
 use std::io::{Read, Write};
@@ -21,7 +22,7 @@ mod tests;
 /// interrupted call too, since nothing is tried again.
 #[derive(Drop)]
 pub struct StdSource<R: Read> {
-    reader: R,
+    reader: Counted<R>,
     // What its reads returned.
     moved: Moved,
     faults: u64,
@@ -30,15 +31,16 @@ pub struct StdSource<R: Read> {
 }
 
 impl<R: Read> StdSource<R> {
-    ghost use Rattle.dvd_ports.specs.Adapters.{source_reader};
+    ghost use Rattle.dvd_ports.specs.Adapters.{source_calls, source_reader};
 
     /// A source over this reader. Nothing is read yet.
     pub fn new(reader: R) -> StdSource<R>
         ensures reader { source_reader result ≡ reader }
+        ensures calls { source_calls result ≡ 0 }
         ensures seen { ⟦<StdSource<R> as Source>⟧.seen result ≡ record { bytes = record { moved = []; left = R.remaining reader }; faults = 0; ends = 0; stopped = false } }
     {
         StdSource {
-            reader,
+            reader: Counted::new(reader),
             moved: Moved::new(),
             faults: 0,
             ends: 0,
@@ -48,12 +50,17 @@ impl<R: Read> StdSource<R> {
 }
 
 impl<R: Read> Source for StdSource<R> {
-    ghost seen = { λ s. record { bytes = record { moved = s.moved.bytes; left = R.remaining s.reader }; faults = s.faults; ends = s.ends; stopped = s.stopped } };
+    ghost use Rattle.dvd_ports.specs.Adapters.{source_calls, source_reader};
+
+    ghost seen = { λ s. record { bytes = record { moved = s.moved.bytes; left = R.remaining (source_reader s) }; faults = s.faults; ends = s.ends; stopped = s.stopped } };
 
     fn read(&mut self, buf: &mut [u8]) -> Result<usize, Failed>
         ensures counts { (⟦<StdSource<R> as Source>⟧.seen self.new).faults
             ≡ (if is_ok result then (⟦<StdSource<R> as Source>⟧.seen self.old).faults
             else next_count (⟦<StdSource<R> as Source>⟧.seen self.old).faults) }
+
+        // The reader is called once, and a call that failed isn't tried again.
+        ensures once { 0 < length buf.old → source_calls self.new ≡ source_calls self.old + 1 }
 
         // As every source.
         ensures call { IsRead (⟦<StdSource<R> as Source>⟧.seen self.old) (⟦<StdSource<R> as Source>⟧.seen self.new) result buf.new }

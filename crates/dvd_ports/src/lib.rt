@@ -4,6 +4,10 @@
 //! that is generic over a source or a sink can't change these counts. So a contract may allow a fault only where
 //! exactly one call failed, the last. Such a contract refuses a body that gives up by itself, and one that tries a
 //! failed call again. A read that met the end of the input is likewise the last.
+//!
+//! Your own `Source` or `Sink` says in `seen` what it is and what it moved: `bytes.moved` is a list that its own fields
+//! give, as `SliceSource` gives the first `at` of its bytes, or that of a source or sink on which it calls. `read` and
+//! `write` are then proved to move exactly what they answer.
 #![tactic(auto)]
 
 /// The two traits and their errors.
@@ -18,6 +22,8 @@ mod sinks;
 mod adapters;
 /// What an object's calls have moved, for contracts alone.
 mod moved;
+/// A reader that counts its calls, for contracts alone.
+mod counted;
 
 pub use adapters::{StdSink, StdSource};
 pub use port::{Failed, NoMemory, Sink, Source, WriteFault};
