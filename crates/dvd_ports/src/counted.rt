@@ -40,4 +40,10 @@ impl<R: Read> Counted<R> {
         self.calls.note(&[0]);
         self.reader.read(buf)
     }
+
+    /// The reader itself, to be looked at.
+    #[cfg(test)]
+    pub fn inner(&self) -> &R {
+        &self.reader
+    }
 }

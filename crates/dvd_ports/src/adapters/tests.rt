@@ -152,7 +152,7 @@ fn reads(
     };
     let calls = call.saturating_add(1);
     let faults = u64::from(case.3 <= call);
-    if answer != wanted || source.reader.calls != calls || source.faults != faults {
+    if answer != wanted || source.reader.inner().calls != calls || source.faults != faults {
         Err((case.0, call))?;
     }
     if source.stopped != matches!(answer, Ok(0) | Err(Failed)) {
@@ -318,7 +318,7 @@ fn is_read(alloc: Global, piece: &[u8], case: &Whole, kind: ErrorKind) -> Result
     } else {
         read == Err(Failed) && source.faults == 1
     };
-    if !is_right || source.reader.calls != case.2 {
+    if !is_right || source.reader.inner().calls != case.2 {
         Err(*case)?;
     }
     Ok(())
