@@ -1,6 +1,6 @@
-//! A reader whose calls are counted, for contracts alone. std says nothing of a read that failed by which a contract could
-//! tell one such call from two: so a body that tries a failed read again would be proved. The reader lies in this module,
-//! and whoever has it here reads by the one call that counts.
+//! A reader whose calls are counted, for contracts alone. Of a read that failed std says nothing by which a contract
+//! could distinguish it from two: without the count, a body that tries a failed read again would be proved. The reader
+//! lies in this module, and whoever has it here reads by the one call that counts.
 ghost use Rattle.std.specs.Prelude.{◌≡◌, ◌+◌, [], length, ℕ};
 ghost use Rattle.std.specs.Io.{ReadsAtMost};
 ghost use Rattle.std.specs.Io.KnownBytes.{ReadConsumes};
